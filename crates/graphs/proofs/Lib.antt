@@ -1,0 +1,2 @@
+pub mod Noding
+pub mod Refused

@@ -1,0 +1,17 @@
+use borrow.Author.Needs.{needs}
+use native.Mathlib.Omega.{arith}
+use mathlib.Core.Path.{sym, ap, _∙_}
+use Rattle.graphs.specs.declared.fault.GraphFault.the-variants.{Target}
+use Rattle.graphs.specs.View.{nodeView, rowCount}
+use Rattle.refusals.specs.Searching.{unless}
+use Rattle.graphs.specs.Checking.{rowFault, targetSound}
+use Rattle.refusals.proofs.Searching.{found, passed, ended}
+use Rattle.graphs.proofs.check.targets_of.Needs as need
+
+pub returns-then-not-target-sound : need.returns-then-not-target-sound
+returns-then-not-target-sound c =
+    found (rowFault (c .args .count) (c .args .n) (nodeView (c .args .node .now) .rows)) (c .loop-k .k) (rowCount (nodeView (c .args .node .now) .rows)) (c .loop-k .inv) _ (omega (arith, c .row-total-k-end .ensures .is)) (search needs)
+
+pub loop-k-again : need.loop-k-again
+loop-k-again c =
+    passed (rowFault (c .args .count) (c .args .n) (nodeView (c .args .node .now) .rows)) (c .loop-k .k) (rowCount (nodeView (c .args .node .now) .rows)) (c .loop-k .inv) (omega (arith, c .row-total-k-end .ensures .is)) (search needs)

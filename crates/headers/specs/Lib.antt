@@ -1,0 +1,4 @@
+pub mod Kinds
+pub mod Table
+pub mod Faults
+pub mod Part

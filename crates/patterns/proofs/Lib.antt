@@ -1,0 +1,10 @@
+pub mod Kept
+pub mod BitLaws
+pub mod Covering
+pub mod Finding
+pub mod Firsts
+pub mod Largest
+pub mod Blocks
+pub mod Few
+pub mod Steps
+pub mod Writing
