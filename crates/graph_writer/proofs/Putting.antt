@@ -18,7 +18,8 @@ use Rattle.graphs.specs.Checking.{graphFault}
 use Rattle.graphs.specs.declared.graph.Node.{Node}
 use Rattle.graphs.specs.View.{NodeView, nodeView, graphView}
 use Rattle.graph_reader.specs.Encoding.{two, recordOf, recordLength, pairsFrom, encode}
-use Rattle.graph_writer.specs.Writing.{written, recordFor, Standing, fileFor, countFault, recordsFault, writeFault}
+use Rattle.graph_writer.specs.Writing.{recordFor, Standing, countFault, recordsFault, writeFault}
+use Rattle.graph_writer.specs.Parts.{written, fileFor}
 use Rattle.graph_reader.proofs.Places.{sizes, pairs-length}
 use Rattle.graph_writer.proofs.Written.{written-more}
 

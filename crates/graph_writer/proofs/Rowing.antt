@@ -25,7 +25,8 @@ use Rattle.std.specs.declared.option.Option.the-variants.{None}
 use Rattle.graph_reader.specs.Records.{at, right}
 use Rattle.graph_reader.specs.Files.{firstWrong}
 use Rattle.refusals.proofs.Searching.{holds}
-use Rattle.graph_writer.specs.Writing.{Counted as Counts, recordFor, placeByte, written, headOf, rowAt, firstRows, bytesFor}
+use Rattle.graph_writer.specs.Writing.{recordFor}
+use Rattle.graph_writer.specs.Parts.{Counted as Counts, placeByte, written, headOf, rowAt, firstRows, bytesFor}
 use Rattle.graph_reader.proofs.Places.{ternary-length, range-length, joined-length}
 use Rattle.graph_writer.proofs.Written.{written-more, length-written}
 

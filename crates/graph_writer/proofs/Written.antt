@@ -5,7 +5,7 @@ use Prim.Native.Nat.{ℕ, _+_, _≤_}
 use native.Mathlib.Omega.{arith}
 use lib.ListN.{length, take, drop}
 use Rattle.std.proofs.shelf.Lists.{length-append, length-take-le, length-drop, take-at, drop-at, drop-drop}
-use Rattle.graph_writer.specs.Writing.{written}
+use Rattle.graph_writer.specs.Parts.{written}
 
 module _ (area : List ℕ) (at : ℕ) (b : List ℕ) (fits : at + length b ≤ length area) where
   front : length (take at area ++ b) ≡ at + length b

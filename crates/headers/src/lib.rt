@@ -4,5 +4,3 @@ pub mod kinds;
 pub mod mark;
 pub mod part;
 pub mod table;
-#[cfg(test)]
-mod tests;

@@ -6,6 +6,4 @@ pub mod row;
 pub mod span;
 pub mod split;
 pub mod ternary;
-#[cfg(test)]
-mod tests;
 pub mod worked;

@@ -7,7 +7,8 @@ use mathlib.Core.List.{map}
 use Rattle.std.specs.shelf.Lists.{joined}
 use Rattle.graphs.specs.View.{nodeView}
 use Rattle.graph_reader.specs.Encoding.{pairsFrom}
-use Rattle.graph_writer.specs.Writing.{written, recordFor}
+use Rattle.graph_writer.specs.Writing.{recordFor}
+use Rattle.graph_writer.specs.Parts.{written}
 use Rattle.graph_writer.proofs.Putting.{file-put, file-length}
 use Rattle.graph_writer.proofs.put.put_file.Needs as need
 

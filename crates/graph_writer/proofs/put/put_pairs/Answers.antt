@@ -7,7 +7,7 @@ use lib.ListN.{length, take}
 use Rattle.std.proofs.shelf.Lists.{take-all}
 use Rattle.graphs.specs.View.{noNode, nodeView}
 use Rattle.graph_reader.specs.Encoding.{two, pairsFrom}
-use Rattle.graph_writer.specs.Writing.{written}
+use Rattle.graph_writer.specs.Parts.{written}
 use Rattle.graph_writer.proofs.Putting.{written-none, pairs-put, sizes-more}
 use Rattle.graph_writer.proofs.put.put_pairs.Needs as need
 

@@ -4,7 +4,7 @@ use Prim.Native.Nat.{_+_, _*_, _≤_}
 use lib.ListN.{length, take}
 use Rattle.graphs.specs.View.{nodeView}
 use Rattle.graph_reader.specs.Encoding.{pairsFrom}
-use Rattle.graph_writer.specs.Writing.{written}
+use Rattle.graph_writer.specs.Parts.{written}
 use Rattle.graph_reader.proofs.Places.{sizes}
 use Rattle.graph_writer.proofs.put.put_pairs.Given as given
 

@@ -5,7 +5,7 @@ use native.Mathlib.Omega.{arith}
 use lib.ListN.{length}
 use Rattle.graphs.specs.View.{nodeView, rowCount}
 use Rattle.graph_reader.specs.Encoding.{rowBytes}
-use Rattle.graph_writer.specs.Writing.{written, firstRows, headOf}
+use Rattle.graph_writer.specs.Parts.{written, firstRows, headOf}
 use Rattle.graph_writer.proofs.Written.{length-written}
 use Rattle.graph_writer.proofs.Rowing.{rows-none, rows-step, record-put, bytes-length, record-for}
 use Rattle.graph_writer.proofs.put.put_record.Needs as need

@@ -6,7 +6,8 @@ use lib.ListN.{length, take}
 use Rattle.std.specs.shelf.Lists.{joined}
 use Rattle.std.proofs.shelf.Lists.{take-all}
 use Rattle.graphs.specs.View.{noNode}
-use Rattle.graph_writer.specs.Writing.{written, recordFor, nodeOf}
+use Rattle.graph_writer.specs.Writing.{recordFor, nodeOf}
+use Rattle.graph_writer.specs.Parts.{written}
 use Rattle.graph_writer.proofs.Putting.{written-none, records-put, records-length}
 use Rattle.graph_writer.proofs.put.put_records.Needs as need
 

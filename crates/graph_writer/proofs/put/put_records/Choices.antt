@@ -2,7 +2,8 @@ use mathlib.Core.Path.{_≡_}
 use Prim.Native.Nat.{_+_, _*_, _≤_}
 use lib.ListN.{length, take}
 use Rattle.std.specs.shelf.Lists.{joined}
-use Rattle.graph_writer.specs.Writing.{written, recordFor}
+use Rattle.graph_writer.specs.Writing.{recordFor}
+use Rattle.graph_writer.specs.Parts.{written}
 use Rattle.graph_writer.proofs.put.put_records.Given as given
 
 abbrev pub Inv-loop-n : given.InvT-loop-n

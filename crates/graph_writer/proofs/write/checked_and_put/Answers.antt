@@ -5,7 +5,8 @@ use Rattle.std.specs.declared.result.Result.the-variants.{Ok}
 use Rattle.refusals.specs.Searching.{unlessFault}
 use Rattle.graphs.specs.View.{nodeView, graphView}
 use Rattle.graph_reader.specs.Encoding.{encode}
-use Rattle.graph_writer.specs.Writing.{written, Standing, fileFor, areaAfter}
+use Rattle.graph_writer.specs.Writing.{Standing, areaAfter}
+use Rattle.graph_writer.specs.Parts.{written, fileFor}
 use Rattle.graph_writer.proofs.Putting.{file-encodes, written-all}
 use Rattle.graph_writer.proofs.write.checked_and_put.Needs as need
 

@@ -1,18 +1,18 @@
 // Patterns, searches and splits at examples.
-use crate::block::Block;
-use crate::block::BlockDebug;
-use crate::block::BlockPartialEq;
-use crate::find::first_covered;
-use crate::find::first_fit;
-use crate::pattern::Pattern;
-use crate::pattern::SpanPattern;
-use crate::pattern::TernaryPattern;
-use crate::row::RangeRow;
-use crate::row::Target;
-use crate::row::TernaryRow;
-use crate::span::Span;
-use crate::split::split;
-use crate::ternary::Ternary;
+use patterns::block::Block;
+use patterns::block::BlockDebug;
+use patterns::block::BlockPartialEq;
+use patterns::find::first_covered;
+use patterns::find::first_fit;
+use patterns::pattern::Pattern;
+use patterns::pattern::SpanPattern;
+use patterns::pattern::TernaryPattern;
+use patterns::row::RangeRow;
+use patterns::row::Target;
+use patterns::row::TernaryRow;
+use patterns::span::Span;
+use patterns::split::split;
+use patterns::ternary::Ternary;
 use std::test::*;
 
 const DONE: Target = Target::Done;
