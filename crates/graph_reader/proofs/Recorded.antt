@@ -17,8 +17,9 @@ use Rattle.graph_reader.specs.Files.{offset, size, pairRight, recordAt, firstW
 use Rattle.refusals.proofs.Searching.{holds, nowhere, wrapped-none}
 use Rattle.graph_reader.proofs.Pairing.{Right, right-says, record-length}
 
--- the rows fill the record, they are at most 16, the places at most 4, and each byte is right
+-- the rows fill the record, they are 1 to 16, the places at most 4, and each byte is right
 pub record Whole (r : List ℕ) : Type 0 where
+  pub some : 1 ≤ at r 14
   pub few : at r 14 ≤ 16
   pub places : at r 8 ≤ 4
   pub counted : length r ≡ 16 + 10 * at r 14
@@ -27,6 +28,10 @@ pub record Whole (r : List ℕ) : Type 0 where
 few-places : (r : List ℕ) → right r 8 ≡ true → at r 8 ≤ 4
 unfolding right
 few-places r e = leb-true _ _ e
+
+some-rows : (r : List ℕ) → right r 14 ≡ true → 1 ≤ at r 14
+unfolding right
+some-rows r e = leb-true _ _ (and-parts _ _ e .0)
 
 few-rows : (r : List ℕ) → right r 14 ≡ true → at r 14 ≤ 16
 unfolding right
@@ -41,7 +46,7 @@ record-counts f i p =
 pub whole-from : (r : List ℕ) → length r ≡ 16 + 10 * at r 14 → firstWrong r ≡ None → Whole r
 whole-from r e w =
     let each : (j : ℕ) → j < length r → right r j ≡ true = λ j h. holds (right r) (λ b. b) (length r) j w h in
-    record { few = few-rows r (each 14 (omega arith)); places = few-places r (each 8 (omega arith)); counted = e; each = each }
+    record { some = some-rows r (each 14 (omega arith)); few = few-rows r (each 14 (omega arith)); places = few-places r (each 8 (omega arith)); counted = e; each = each }
 
 pub record-whole : (f : List ℕ) (i : ℕ) → pairFault f ≡ None → byteFault f ≡ None → i < at f 0 → Whole (recordAt f i)
 record-whole f i p b h =

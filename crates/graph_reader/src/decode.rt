@@ -1,8 +1,7 @@
 // A right record's bytes, read as a node.
 ghost use mathlib.Core.Path.{_≡_};
-ghost use mathlib.Core.Bool.{Bool, true, false};
-ghost use mathlib.Core.List.{map};
-ghost use Prim.Native.Nat.{ℕ, _+_, _-_, _*_, _/_, _%_, _<_, _≤_};
+ghost use mathlib.Core.List.{List};
+ghost use Prim.Native.Nat.{ℕ, _+_, _*_, _≤_};
 ghost use lib.ListN.{length, getD, take};
 ghost use Rattle.std.specs.declared.option.Option.the-variants.{None};
 ghost use Rattle.graphs.specs.View.{nodeView, rowsView, graphView, NodeCounts, Counts};
@@ -21,6 +20,7 @@ use patterns::row::RangeRow;
 use patterns::row::Target;
 use patterns::row::TernaryRow;
 
+// The kind of a number that is in its range.
 fn kind_at(number: u8) -> Kind
     ensures { λ r. ⌜ r ≡ kindAt number ⌝ }
 {
@@ -57,71 +57,66 @@ fn target_in(bytes: &[u8], o: usize) -> Target
     }
 }
 
-fn ternary_in(bytes: &[u8], o: usize) -> TernaryRow
-    requires { ⌜ o + 10 ≤ length (now bytes) ⌝ }
-    ensures { λ r. ⌜ r ≡ ternaryIn (now (bytes .entry)) o ⌝ }
-{
-    TernaryRow {
-        value: number4(bytes, o),
-        mask: number4(bytes, o + 4),
-        target: target_in(bytes, o),
+// A row as a record's bytes say it.
+trait RowIn: Copy {
+    // The row that the bytes from a place on say.
+    ghost said: { List ℕ → ℕ → Self };
+
+    fn row_in(bytes: &[u8], o: usize) -> Self
+        requires { ⌜ o + 10 ≤ length (now bytes) ⌝ }
+        ensures { λ r. ⌜ r ≡ said (now (bytes .entry)) o ⌝ };
+}
+
+impl RowIn for TernaryRow as TernaryRowIn {
+    ghost said = { ternaryIn };
+
+    fn row_in(bytes: &[u8], o: usize) -> TernaryRow {
+        TernaryRow {
+            value: number4(bytes, o),
+            mask: number4(bytes, o + 4),
+            target: target_in(bytes, o),
+        }
     }
 }
 
-fn range_in(bytes: &[u8], o: usize) -> RangeRow
-    requires { ⌜ o + 10 ≤ length (now bytes) ⌝ }
-    ensures { λ r. ⌜ r ≡ rangeIn (now (bytes .entry)) o ⌝ }
-{
-    RangeRow {
-        low: number2(bytes, o),
-        high: number2(bytes, o + 2),
-        target: target_in(bytes, o),
+impl RowIn for RangeRow as RangeRowIn {
+    ghost said = { rangeIn };
+
+    fn row_in(bytes: &[u8], o: usize) -> RangeRow {
+        RangeRow {
+            low: number2(bytes, o),
+            high: number2(bytes, o + 2),
+            target: target_in(bytes, o),
+        }
     }
 }
 
-fn ternaries_in(bytes: &[u8], n: u8) -> [TernaryRow; 16]
-    requires { ⌜ n ≤ 16 ⌝ ∗ ⌜ length (now bytes) ≡ 16 + 10 * n ⌝ }
-    ensures { λ r. ⌜ take n r ≡ eachRow (ternaryIn (now (bytes .entry))) n ⌝ }
+// The first n rows of a record; what stands behind them is the first row again.
+fn first_rows<R: RowIn>(bytes: &[u8], n: u8) -> [R; 16]
+    requires { ⌜ 1 ≤ n ⌝ ∗ ⌜ n ≤ 16 ⌝ ∗ ⌜ length (now bytes) ≡ 16 + 10 * n ⌝ }
+    ensures { λ r. ⌜ take n r ≡ eachRow (said (now (bytes .entry))) n ⌝ }
 {
-    let mut rows = [TernaryRow {
-        value: 0,
-        mask: 0,
-        target: Target::Done,
-    }; 16];
+    let mut rows = [R::row_in(bytes, 16); 16];
     for k in 0..n {
-        rows[k as usize] = ternary_in(bytes, 16 + 10 * k as usize);
-    }
-    rows
-}
-
-fn ranges_in(bytes: &[u8], n: u8) -> [RangeRow; 16]
-    requires { ⌜ n ≤ 16 ⌝ ∗ ⌜ length (now bytes) ≡ 16 + 10 * n ⌝ }
-    ensures { λ r. ⌜ take n r ≡ eachRow (rangeIn (now (bytes .entry))) n ⌝ }
-{
-    let mut rows = [RangeRow {
-        low: 0,
-        high: 0,
-        target: Target::Done,
-    }; 16];
-    for k in 0..n {
-        rows[k as usize] = range_in(bytes, 16 + 10 * k as usize);
+        rows[k as usize] = R::row_in(bytes, 16 + 10 * k as usize);
     }
     rows
 }
 
 fn rows_in(bytes: &[u8]) -> Rows
-    requires { ⌜ getD (now bytes) 14 0 ≤ 16 ⌝ ∗ ⌜ length (now bytes) ≡ 16 + 10 * getD (now bytes) 14 0 ⌝ }
+    requires { ⌜ 1 ≤ getD (now bytes) 14 0 ⌝ ∗ ⌜ getD (now bytes) 14 0 ≤ 16 ⌝ ∗ ⌜ length (now bytes) ≡ 16 + 10 * getD (now bytes) 14 0 ⌝ }
     ensures { λ r. ⌜ rowsView (getD (now (bytes .entry)) 14 0) r ≡ rowsIn (now (bytes .entry)) ⌝ }
 {
     if bytes[13] == 0 {
-        Rows::Ternary(ternaries_in(bytes, bytes[14]))
+        Rows::Ternary(first_rows::<TernaryRow>(bytes, bytes[14]))
     } else {
-        Rows::Range(ranges_in(bytes, bytes[14]))
+        Rows::Range(first_rows::<RangeRow>(bytes, bytes[14]))
     }
 }
 
 // The node of a record.
 pub(crate) fn node_in(bytes: &[u8]) -> Node
+    requires some { ⌜ 1 ≤ getD (now bytes) 14 0 ⌝ }
     requires rows { ⌜ getD (now bytes) 14 0 ≤ 16 ⌝ }
     requires places { ⌜ getD (now bytes) 8 0 ≤ 4 ⌝ }
     requires long { ⌜ length (now bytes) ≡ 16 + 10 * getD (now bytes) 14 0 ⌝ }
@@ -138,6 +133,7 @@ pub(crate) fn node_in(bytes: &[u8]) -> Node
     }
 }
 
+// What stands behind the nodes that the count names.
 fn blank() -> Node {
     Node {
         kind: Kind::Other,

@@ -1,18 +1,17 @@
 // The file's shape, its pairs, and the records that they name.
 ghost use mathlib.Core.Path.{_≡_};
-ghost use mathlib.Core.Bool.{Bool, true, false};
-ghost use Prim.Native.Nat.{ℕ, _+_, _-_, _*_, _/_, _%_, _<_, _≤_};
-ghost use lib.ListN.{length, getD};
+ghost use mathlib.Core.Bool.{true};
+ghost use Prim.Native.Nat.{_+_, _*_, _<_, _≤_};
+ghost use lib.ListN.{length};
 ghost use Rattle.std.specs.declared.option.Option.the-variants.{None};
-ghost use Rattle.graph_reader.specs.Records.{at2};
 ghost use Rattle.refusals.specs.Searching.{faultOf};
-ghost use Rattle.graph_reader.specs.Files.{offset, size, begins, shapeRight, pairRight, recordAt, shapeFault, pairFault, byteFault, recordFault};
+ghost use Rattle.graph_reader.specs.Files.{begins, pairRight, recordAt, shapeFault, pairFault, byteFault, recordFault};
 use crate::fault::FileFault;
 use crate::read::MOST_BYTES;
 use crate::record::first_wrong;
 use crate::record::number2;
 
-// Number 1.
+// Refused by 1: the size, the node count or byte 1.
 pub(crate) fn check_shape(file: &[u8]) -> Result<(), FileFault>
     ensures { λ r. ⌜ faultOf r ≡ shapeFault (now (file .entry)) ⌝ }
 {
@@ -36,6 +35,7 @@ fn begin_of(file: &[u8], i: usize) -> usize
     number2(file, 2 + 4 * (i - 1)) as usize + number2(file, 4 + 4 * (i - 1)) as usize
 }
 
+// Whether pair `i` says where the record of node `i` lies.
 fn pair_right(file: &[u8], i: usize) -> bool
     requires { ⌜ i < 256 ⌝ ∗ ⌜ 2 ≤ length (now file) ⌝ }
     ensures { λ r. ⌜ r ≡ pairRight (now (file .entry)) i ⌝ }
@@ -60,7 +60,7 @@ fn pair_right(file: &[u8], i: usize) -> bool
     i + 1 < file[0] as usize || offset + size == file.len()
 }
 
-// Number 2.
+// Refused by 2, at the first pair that is wrong.
 pub(crate) fn check_pairs(file: &[u8]) -> Result<(), FileFault>
     requires { ⌜ 2 ≤ length (now file) ⌝ }
     ensures { λ r. ⌜ faultOf r ≡ pairFault (now (file .entry)) ⌝ }
@@ -83,6 +83,7 @@ pub(crate) fn record_of(file: &[u8], i: usize) -> &[u8]
     &file[offset..offset + size]
 }
 
+// Refused by 3, at the first byte of the record that is out of its range.
 fn check_record(file: &[u8], n: u8) -> Result<(), FileFault>
     requires { ⌜ pairRight (now file) n ≡ true ⌝ }
     ensures { λ r. ⌜ faultOf r ≡ recordFault (now (file .entry)) n ⌝ }
@@ -96,7 +97,7 @@ fn check_record(file: &[u8], n: u8) -> Result<(), FileFault>
     }
 }
 
-// Number 3.
+// Refused by 3, at the first node and byte that is out of its range.
 pub(crate) fn check_bytes(file: &[u8]) -> Result<(), FileFault>
     requires { ⌜ 2 ≤ length (now file) ⌝ ∗ ⌜ pairFault (now file) ≡ None ⌝ }
     ensures { λ r. ⌜ faultOf r ≡ byteFault (now (file .entry)) ⌝ }

@@ -1,7 +1,7 @@
 // The bytes of a record: which of them are in their ranges. A byte behind the end reads as 0.
 ghost use mathlib.Core.Path.{_≡_};
-ghost use Prim.Native.Nat.{ℕ, _+_, _-_, _*_, _/_, _%_, _^_, _<_, _≤_};
-ghost use lib.ListN.{length, getD};
+ghost use Prim.Native.Nat.{_-_, _^_, _<_, _≤_};
+ghost use lib.ListN.{length};
 ghost use Rattle.graph_reader.specs.Records.{at, at2, at4, fixedRight, countedRight, lengthRight, lookupRight, ternaryRight, rangeRight, targetRight, rowRight, right};
 ghost use Rattle.graph_reader.specs.Files.{firstWrong};
 ghost use Rattle.std.specs.Options.{Cases};

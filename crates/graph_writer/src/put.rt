@@ -24,6 +24,7 @@ fn put(area: &mut [u8], at: usize, bytes: &[u8])
     area[at..at + bytes.len()].copy_from_slice(bytes);
 }
 
+// Bytes 1 to 7 of a record.
 fn length_bytes(length: Length) -> [u8; 7]
     ensures { λ r. ⌜ r ≡ lengthBytes length ⌝ }
 {
@@ -39,6 +40,7 @@ fn length_bytes(length: Length) -> [u8; 7]
     }
 }
 
+// The byte of lookup place j; zero behind the count.
 fn place_byte(node: &Node, j: u8) -> u8
     requires { ⌜ j < 4 ⌝ }
     ensures { λ r. ⌜ r ≡ placeByte (now (node .entry) .«place_count») (now (node .entry) .places) j ⌝ }
@@ -50,6 +52,7 @@ fn place_byte(node: &Node, j: u8) -> u8
     }
 }
 
+// Byte 13 of a record.
 fn sort_byte(node: &Node) -> u8
     ensures { λ r. ⌜ r ≡ sortByte (nodeView (now (node .entry)) .rows) ⌝ }
 {
@@ -85,6 +88,7 @@ fn head_of(node: &Node) -> [u8; 16]
     ]
 }
 
+// Bytes 8 and 9 of a row.
 fn target_bytes(target: Target) -> [u8; 2]
     ensures { λ r. ⌜ r ≡ targetBytes target ⌝ }
 {
@@ -133,6 +137,7 @@ fn range_bytes(row: RangeRow) -> [u8; 10]
     ]
 }
 
+// The ten bytes of row k.
 fn row_bytes(node: &Node, k: usize) -> [u8; 10]
     requires { ⌜ k < rowCount (nodeView (now node) .rows) ⌝ }
     ensures { λ r. ⌜ r ≡ rowAt (nodeView (now (node .entry)) .rows) k ⌝ }

@@ -21,7 +21,7 @@ record-of-requires c κs = (omega (arith, c .pre .few), holds (pairRight (c .arg
 pub node-in-requires : need.node-in-requires
 node-in-requires c κs =
     let w : Whole (c .record-of .result .now) = subst Whole (sym (c .record-of .ensures)) (record-whole (c .args .file .now) (c .loop-i .i) (c .pre .pairs) (c .pre .bytes) (c .loop-i-test .taken)) in
-    record { rows = w .few; places = w .places; long = w .counted }
+    record { some = w .some; rows = w .few; places = w .places; long = w .counted }
 
 pub loop-i-again : need.loop-i-again
 loop-i-again c = (
