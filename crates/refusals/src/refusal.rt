@@ -3,6 +3,7 @@
 pub enum Layer {
     File,
     Graph,
+    Store,
     Writing,
     Field,
     Payload,

@@ -6,6 +6,7 @@ pub enum Command<'a> {
     Check { file: &'a str },
     Show { file: &'a str },
     Copy { file: &'a str, out: &'a str },
+    Stores,
     Demo,
     Script,
 }
@@ -21,6 +22,7 @@ impl<'a> Command<'a> {
                 file: *file,
                 out: *out,
             }),
+            ["stores"] => Some(Command::Stores),
             ["demo"] => Some(Command::Demo),
             ["script"] => Some(Command::Script),
             _ => None,
@@ -34,4 +36,5 @@ pub const USAGE: &str = "usage: tapctl COMMAND
   show FILE       shows the graph's nodes, lengths, lookup bytes and rows
   copy FILE OUT   reads the graph, writes it to OUT, and compares the two files
   demo            does all three with a graph that the program makes
+  stores          fills and asks the stores, and prints what they say side by side
   script          takes commands from standard input, one to a line";

@@ -8,6 +8,7 @@ use crate::files::bytes_of;
 use crate::files::copy_of;
 use crate::graph_text::print_accepted;
 use crate::graph_text::print_graph;
+use crate::store_table::print_stores;
 use graph_reader::read::read_graph;
 use std::fs;
 
@@ -18,6 +19,7 @@ pub fn carry_out<'a>(rt: &LibcRuntime, command: Command<'a>) -> Result<(), Failu
         Command::Check { file } => check(rt, file)?,
         Command::Show { file } => show(rt, file)?,
         Command::Copy { file, out } => copy(rt, file, out)?,
+        Command::Stores => print_stores(rt)?,
         Command::Demo => demo(rt)?,
         Command::Script => return Err(Failure::Usage),
     }

@@ -9,6 +9,7 @@ use std::alloc::AllocError;
 use std::alloc::Refused;
 use std::fmt;
 use std::io;
+use stores::fault::StoreFault;
 
 /// Why a command was not carried out.
 #[derive(Clone, Copy)]
@@ -51,6 +52,12 @@ pub impl<'a> From<ReadFault> for Failure<'a> as FailureFromRead {
 
 pub impl<'a> From<WriteFault> for Failure<'a> as FailureFromWrite {
     fn from(fault: WriteFault) -> Failure<'a> {
+        Failure::Refused(fault.refusal())
+    }
+}
+
+pub impl<'a> From<StoreFault> for Failure<'a> as FailureFromStore {
+    fn from(fault: StoreFault) -> Failure<'a> {
         Failure::Refused(fault.refusal())
     }
 }

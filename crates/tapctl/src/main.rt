@@ -8,6 +8,7 @@ mod files;
 mod graph_text;
 mod refusal_text;
 mod script;
+mod store_table;
 
 use crate::command::Command;
 use crate::commands::carry_out;

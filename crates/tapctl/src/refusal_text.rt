@@ -42,6 +42,7 @@ fn layer_name(layer: Layer) -> &'static str {
     match layer {
         Layer::File => "file",
         Layer::Graph => "graph",
+        Layer::Store => "store",
         Layer::Writing => "writing",
         Layer::Field => "field",
         Layer::Payload => "payload",
@@ -57,6 +58,7 @@ fn meaning(number: u8) -> &'static str {
         4 => "the row leads to a node that is no later one of the graph",
         5 => "an earlier row of the node covers the row",
         6 => "the fixed length is under the minimum of the node's kind",
+        9 => "the store takes no more rows",
         11 => "the area is shorter than the longest graph file, 5762 bytes",
         17 => "the mark's kind is unknown, or the part lies outside the packet",
         _ => "the number is not in use",
