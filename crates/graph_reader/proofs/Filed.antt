@@ -1,14 +1,13 @@
 -- A file that numbers 1 to 3 do not refuse is the encoding of the nodes read off it.
-use mathlib.Core.Path.{_≡_, refl, sym, ap, ap₂, _∙_}
-use mathlib.Core.Bool.{Bool, true, false, cond, _||_}
-use mathlib.Core.List.{List, [], _∷_, _++_, map}
+use mathlib.Core.Path.{_≡_, sym, ap, ap₂, _∙_}
+use mathlib.Core.List.{List, _∷_, _++_, map}
 use mathlib.Core.Logic.{inl, inr}
 use Prim.Native.Nat.{ℕ, zero, suc, _+_, _-_, _*_, _<_, _≤_}
 use native.Mathlib.Omega.{arith}
-use lib.ListN.{length, take, drop, getD}
+use lib.ListN.{length, drop}
 use lib.Dec.{ltb, eqb}
 use Rattle.std.specs.declared.option.Option.the-variants.{None}
-use Rattle.std.proofs.shelf.Tests.{and-parts, leb-true, eqb-true, ltb-true, or-cases, cond-false, cond-both, ne-eqb, cases-lt}
+use Rattle.std.proofs.shelf.Tests.{eqb-true, ltb-true, or-cases, cond-false, cond-both, ne-eqb, cases-lt}
 use Rattle.std.proofs.shelf.Lists.{drop-drop, take-append-drop, getD-take, getD-drop, getD-past, drop-all, length-take}
 use Rattle.std.proofs.shelf.Counted.{length-map-counting}
 use Rattle.std.specs.Iters.{counting}
@@ -16,11 +15,11 @@ use Rattle.std.specs.shelf.Lists.{joined}
 use Rattle.graph_reader.specs.declared.fault.FileFault.the-variants.{Shape, Pair}
 use Rattle.graphs.specs.View.{NodeView, rowCount}
 use Rattle.graph_reader.specs.Encoding.{two, recordOf, recordLength, pairsFrom, encode}
-use Rattle.graph_reader.specs.Records.{at, at2}
+use Rattle.graph_reader.specs.Records.{at}
 use Rattle.graph_reader.specs.Files.{shapeRight, shapeFault, offset, size, begins, pairRight, recordAt, pairFault, byteFault}
 use Rattle.graph_reader.specs.Decoding.{ternaryIn, rangeIn, rowsIn, nodeIn, nodesIn}
 use Rattle.refusals.proofs.Searching.{holds, unless-none}
-use Rattle.graph_reader.proofs.Pairing.{Shaped, shape-says, Right, right-says, record-length}
+use Rattle.graph_reader.proofs.Pairing.{shape-says, Right, right-says, record-length}
 use Rattle.graph_reader.proofs.Recorded.{Whole, record-whole}
 use Rattle.graph_reader.proofs.Spelling.{two-digits, peel, spelled}
 

@@ -1,13 +1,13 @@
 -- What a right shape and a right pair say.
-use mathlib.Core.Path.{_≡_, refl, sym, ap, _∙_}
-use mathlib.Core.Bool.{Bool, true, false, _||_}
+use mathlib.Core.Path.{_≡_}
+use mathlib.Core.Bool.{true, _||_}
 use mathlib.Core.List.{List}
-use Prim.Native.Nat.{ℕ, _+_, _-_, _*_, _<_, _≤_}
+use Prim.Native.Nat.{ℕ, _+_, _-_, _*_, _≤_}
 use native.Mathlib.Omega.{arith}
-use lib.ListN.{length, take, drop, length-take, length-drop}
+use lib.ListN.{length, length-take, length-drop}
 use lib.Dec.{ltb, eqb}
-use Rattle.std.proofs.shelf.Tests.{and-parts, leb-true, eqb-true, ltb-true}
-use Rattle.graph_reader.specs.Records.{at, at2}
+use Rattle.std.proofs.shelf.Tests.{and-parts, leb-true, eqb-true}
+use Rattle.graph_reader.specs.Records.{at}
 use Rattle.graph_reader.specs.Files.{shapeRight, offset, size, begins, pairRight, recordAt}
 
 pub record Shaped (f : List ℕ) : Type 0 where

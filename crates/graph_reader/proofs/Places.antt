@@ -6,7 +6,7 @@ use native.Mathlib.Nat.{add-zero}
 use native.Mathlib.Omega.{arith}
 use lib.ListN.{length, take, drop, getD}
 use Rattle.std.specs.shelf.Lists.{joined}
-use Rattle.std.proofs.shelf.Lists.{length-append, length-take-le, append-assoc, getD-append-left, getD-append-right, getD-append-add, take-at, drop-at, drop-drop, take-all}
+use Rattle.std.proofs.shelf.Lists.{length-append, length-take-le, append-assoc, getD-append-left, getD-append-right, getD-append-add, take-at, drop-at, drop-drop}
 use Rattle.patterns.specs.declared.row.Target.{Target}
 use Rattle.patterns.specs.declared.row.Target.the-variants.{Node, Done, Dropped}
 use Rattle.patterns.specs.declared.row.TernaryRow.{TernaryRow}
@@ -15,7 +15,7 @@ use Rattle.headers.specs.Kinds.{kindNumber}
 use Rattle.graphs.specs.declared.graph.Length.{Length}
 use Rattle.graphs.specs.declared.graph.Length.the-variants.{Fixed, Counted}
 use Rattle.graphs.specs.View.{RowsView, ternaryRows, rangeRows, NodeView, rowCount}
-use Rattle.graph_reader.specs.Records.{at, at2}
+use Rattle.graph_reader.specs.Records.{at}
 use Rattle.graph_reader.specs.Encoding.{two, lengthBytes, placeBytes, targetBytes, ternaryBytes, rangeBytes, sortByte, rowBytes, recordOf, recordLength, pairsFrom, encode}
 use Rattle.graph_reader.specs.Files.{offset, size, recordAt}
 

@@ -1,18 +1,16 @@
 -- A record all of whose bytes are right.
-use mathlib.Core.Path.{_≡_, refl, sym, ap, ap₂, _∙_}
-use mathlib.Core.Bool.{Bool, true, false, cond}
+use mathlib.Core.Path.{_≡_, sym, ap, ap₂, _∙_}
+use mathlib.Core.Bool.{true}
 use mathlib.Core.List.{List}
 use Prim.Native.Nat.{ℕ, _+_, _-_, _*_, _/_, _%_, _<_, _≤_}
 use native.Mathlib.Omega.{arith}
-use lib.ListN.{length, take, drop, getD}
+use lib.ListN.{length, drop}
 use lib.Dec.{ltb}
-use Rattle.std.specs.declared.option.Option.{Option}
-use Rattle.std.specs.declared.option.Option.the-variants.{Some, None}
-use Rattle.std.proofs.shelf.Tests.{and-parts, leb-true, le-ltb, lt-ltb, cond-false}
+use Rattle.std.specs.declared.option.Option.the-variants.{None}
+use Rattle.std.proofs.shelf.Tests.{and-parts, leb-true, le-ltb, cond-false}
 use Rattle.std.proofs.shelf.Lists.{getD-take, getD-drop}
 use Rattle.graph_reader.specs.declared.fault.FileFault.the-variants.{Pair, Byte}
-use Rattle.graph_reader.specs.Records.{at, at2, right, rowRight}
-use Rattle.refusals.specs.Searching.{firstOf, unless}
+use Rattle.graph_reader.specs.Records.{at, right, rowRight}
 use Rattle.graph_reader.specs.Files.{offset, size, pairRight, recordAt, firstWrong, pairFault, recordFault, byteFault}
 use Rattle.refusals.proofs.Searching.{holds, nowhere, wrapped-none}
 use Rattle.graph_reader.proofs.Pairing.{Right, right-says, record-length}

@@ -1,6 +1,6 @@
 -- What reading tells of a file is its least fault.
 use mathlib.Core.Path.{_≡_, refl, sym, ap, ap₂, subst, _∙_}
-use mathlib.Core.Bool.{Bool, true, false}
+use mathlib.Core.Bool.{false}
 use mathlib.Core.List.{List}
 use mathlib.Core.Logic.{_⊎_, inl, inr}
 use Prim.Native.Nat.{ℕ, _+_, _<_, _≤_}
@@ -29,7 +29,7 @@ use Rattle.graph_reader.specs.declared.fault.ReadFault.{ReadFault}
 use Rattle.graph_reader.specs.declared.fault.ReadFault.the-variants.{File, Graph}
 use Rattle.graph_reader.specs.Encoding.{encode}
 use Rattle.graph_reader.specs.Records.{at, right}
-use Rattle.graph_reader.specs.Files.{offset, size, shapeRight, pairRight, recordAt, firstWrong, shapeFault, pairFault, recordFault, byteFault, fileFault}
+use Rattle.graph_reader.specs.Files.{offset, size, shapeRight, pairRight, recordAt, firstWrong, shapeFault, pairFault, byteFault, fileFault}
 use Rattle.graph_reader.specs.Faults.{ofFile, ofRead}
 use Rattle.graph_reader.specs.Refusals.{WrongShape, short, long, no-node, many-nodes, byte-one, WrongPair, missing, apart, past-end, odd-size, not-last, FileApplies, Applies}
 use Rattle.graph_reader.specs.Decoding.{nodesIn}

@@ -1,14 +1,14 @@
 -- The encoding of a sound graph is read as the same graph.
 use mathlib.Core.Path.{_≡_, refl, sym, ap, ap₂, subst, _∙_}
-use mathlib.Core.Bool.{Bool, true, false, cond, _||_}
-use mathlib.Core.List.{List, [], _∷_, _++_, map}
+use mathlib.Core.Bool.{true, cond, _||_}
+use mathlib.Core.List.{List, [], _∷_, _++_}
 use mathlib.Core.Logic.{inl, inr}
 use Prim.Native.Nat.{ℕ, zero, suc, _+_, _-_, _*_, _/_, _%_, _<_, _≤_}
 use native.Mathlib.Nat.{add-zero}
 use native.Mathlib.Omega.{arith}
 use lib.ListN.{length, take, drop, getD}
-use lib.Dec.{ltb, leb, eqb}
-use Rattle.std.specs.declared.option.Option.the-variants.{Some, None}
+use lib.Dec.{ltb, eqb}
+use Rattle.std.specs.declared.option.Option.the-variants.{None}
 use Rattle.std.specs.declared.result.Result.the-variants.{Ok}
 use Rattle.std.specs.shelf.Lists.{joined}
 use Rattle.std.proofs.shelf.Tests.{and-from, and-parts, le-leb, leb-true, eq-eqb, ne-eqb, lt-ltb, or-left, or-right, cond-false, cases-lt}
@@ -30,9 +30,9 @@ use Rattle.graphs.specs.View.{RowsView, ternaryRows, rangeRows, NodeView, rowCo
 use Rattle.graphs.specs.Checking.{graphFault}
 use Rattle.graph_reader.specs.declared.fault.FileFault.the-variants.{Shape, Pair, Byte}
 use Rattle.graph_reader.specs.Records.{at, at2, at4, right}
-use Rattle.graph_reader.specs.Encoding.{two, four, lengthBytes, placeBytes, targetBytes, ternaryBytes, rangeBytes, sortByte, rowBytes, recordOf, recordLength, encode}
-use Rattle.graph_reader.specs.Files.{offset, size, begins, shapeRight, pairRight, recordAt, firstWrong, shapeFault, pairFault, recordFault, byteFault}
-use Rattle.graph_reader.specs.Decoding.{lengthIn, targetIn, ternaryIn, rangeIn, eachRow, rowsIn, nodeIn, nodesIn}
+use Rattle.graph_reader.specs.Encoding.{lengthBytes, placeBytes, targetBytes, ternaryBytes, rangeBytes, sortByte, rowBytes, recordOf, recordLength, encode}
+use Rattle.graph_reader.specs.Files.{offset, size, begins, shapeRight, pairRight, recordAt, firstWrong, pairFault, recordFault, byteFault}
+use Rattle.graph_reader.specs.Decoding.{targetIn, ternaryIn, rangeIn, eachRow, nodeIn, nodesIn}
 use Rattle.graph_reader.specs.Reading.{reading}
 use Rattle.graph_reader.proofs.Refused.{reading-graph}
 use Rattle.graph_reader.proofs.Places.{ternary-length, range-length, row-at, head, record-parts, places-length, head-length, record-long, sizes, sizes-next, sizes-within, start, file-long, offset-is, size-is, record-is, two-back}

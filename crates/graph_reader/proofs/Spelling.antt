@@ -1,25 +1,25 @@
 -- A right record is the encoding of the node read off it.
 use mathlib.Core.Path.{_≡_, refl, sym, ap, ap₂, _∙_}
-use mathlib.Core.Bool.{Bool, true, false, cond}
+use mathlib.Core.Bool.{true, false, cond}
 use mathlib.Core.List.{List, [], _∷_, _++_, map}
 use Prim.Native.Nat.{ℕ, zero, suc, _+_, _-_, _*_, _/_, _%_, _<_, _≤_}
 use native.Mathlib.Nat.{add-zero}
 use native.Mathlib.Omega.{arith}
-use lib.ListN.{length, take, drop, getD}
+use lib.ListN.{length, take, drop}
 use lib.Dec.{ltb, leb, eqb}
-use Rattle.std.proofs.shelf.Tests.{and-parts, leb-true, eqb-true, cond-false, cond-both}
+use Rattle.std.proofs.shelf.Tests.{leb-true, eqb-true, cond-false, cond-both}
 use Rattle.std.proofs.shelf.Ways.{tells}
 use Rattle.std.proofs.shelf.Counted.{length-map-counting}
 use Rattle.std.proofs.shelf.Lists.{drop-more, drop-all}
 use Rattle.std.specs.Iters.{counting}
 use Rattle.std.specs.shelf.Lists.{joined}
-use Rattle.headers.specs.Kinds.{kindNumber, kindAt}
+use Rattle.headers.proofs.KindLaws.{number-back}
 use Rattle.patterns.specs.declared.row.Target.the-variants.{Node, Done, Dropped}
 use Rattle.graphs.specs.declared.graph.Length.the-variants.{Fixed, Counted}
-use Rattle.graphs.specs.View.{RowsView, ternaryRows, rangeRows, rowCount}
+use Rattle.graphs.specs.View.{rowCount}
 use Rattle.graph_reader.specs.Encoding.{two, four, lengthBytes, placeBytes, targetBytes, ternaryBytes, rangeBytes, sortByte, rowBytes, recordOf}
-use Rattle.graph_reader.specs.Records.{at, at2, at4, fixedRight, countedRight, right, ternaryRight, rangeRight, targetRight, rowRight}
-use Rattle.graph_reader.specs.Decoding.{lengthIn, targetIn, ternaryIn, rangeIn, eachRow, rowsIn, placesIn, nodeIn}
+use Rattle.graph_reader.specs.Records.{at, at2, at4, fixedRight, countedRight, right, rowRight}
+use Rattle.graph_reader.specs.Decoding.{targetIn, ternaryIn, rangeIn, rowsIn, nodeIn}
 use Rattle.graph_reader.proofs.Recorded.{Whole, row-right}
 
 -- digits
@@ -37,20 +37,6 @@ four-digits a b c d hb hc hd =
     let r : (a * 16777216 + b * 65536 + c * 256 + d) / 256 % 256 ≡ c = omega arith in
     let s : (a * 16777216 + b * 65536 + c * 256 + d) % 256 ≡ d = omega arith in
     cc
-
-kind-spelled : (k : ℕ) → leb k 10 ≡ true → kindNumber (kindAt k) ≡ k
-kind-spelled zero e = refl
-kind-spelled (suc zero) e = refl
-kind-spelled (suc (suc zero)) e = refl
-kind-spelled (suc (suc (suc zero))) e = refl
-kind-spelled (suc (suc (suc (suc zero)))) e = refl
-kind-spelled (suc (suc (suc (suc (suc zero))))) e = refl
-kind-spelled (suc (suc (suc (suc (suc (suc zero)))))) e = refl
-kind-spelled (suc (suc (suc (suc (suc (suc (suc zero))))))) e = refl
-kind-spelled (suc (suc (suc (suc (suc (suc (suc (suc zero)))))))) e = refl
-kind-spelled (suc (suc (suc (suc (suc (suc (suc (suc (suc zero))))))))) e = refl
-kind-spelled (suc (suc (suc (suc (suc (suc (suc (suc (suc (suc zero)))))))))) e = refl
-kind-spelled (suc (suc (suc (suc (suc (suc (suc (suc (suc (suc (suc k))))))))))) e = absurd (omega (arith, leb-true _ _ e))
 
 -- the seven bytes of a length
 length-spelled : (a b c d e f g : ℕ) → leb a 1 ≡ true
@@ -195,7 +181,7 @@ module _ (r : List ℕ) (byte : (i : ℕ) → at r i < 256) (w : Whole r) where
   unfolding right nodeIn
   spelled =
       let p = places-spelled (at r 8) (at r 9) (at r 10) (at r 11) (at r 12) (head 8 (omega arith)) (head 9 (omega arith)) (head 10 (omega arith)) (head 11 (omega arith)) (head 12 (omega arith)) in
-      ap₂ (λ x y. x ∷ y) (kind-spelled (at r 0) (head 0 (omega arith)))
+      ap₂ (λ x y. x ∷ y) (number-back (at r 0) (leb-true _ _ (head 0 (omega arith))))
       (ap₂ (λ x y. x ++ y)
       (length-spelled (at r 1) (at r 2) (at r 3) (at r 4) (at r 5) (at r 6) (at r 7) (head 1 (omega arith)) (head 3 (omega arith)) (head 4 (omega arith)) (head 5 (omega arith)) (head 6 (omega arith)) (head 7 (omega arith)))
       (ap₂ (λ x y. x ∷ y) (p .count) (ap₂ (λ x y. x ++ y) (p .bytes) tail-spelled)))

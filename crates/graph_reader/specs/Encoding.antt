@@ -1,6 +1,6 @@
 -- The bytes of a graph file.
-use mathlib.Core.List.{List, [], _∷_, _++_, map}
-use Prim.Native.Nat.{ℕ, _+_, _*_, _/_, _%_, _^_}
+use mathlib.Core.List.{List, [], _∷_, _++_}
+use Prim.Native.Nat.{ℕ, _+_, _*_, _/_, _%_}
 use lib.ListN.{length, take}
 use Rattle.std.specs.shelf.Lists.{joined}
 use Rattle.headers.specs.Kinds.{kindNumber}

@@ -1,5 +1,4 @@
 -- The number, layer and place of each fault of a graph file.
-use Prim.Native.Nat.{ℕ}
 use Rattle.refusals.specs.declared.refusal.Refusal.{Refusal}
 use Rattle.refusals.specs.declared.refusal.Layer.the-variants as layer
 use Rattle.graphs.specs.Faults.{ofGraph}

@@ -1,6 +1,6 @@
 -- The file as a whole: its shape, its pairs and the records that they name.
 use mathlib.Core.List.{List}
-use mathlib.Core.Bool.{Bool, true, false, cond, _&&_, _||_}
+use mathlib.Core.Bool.{Bool, cond, _&&_, _||_}
 use Prim.Native.Nat.{ℕ, _+_, _-_, _*_}
 use lib.ListN.{length, take, drop}
 use lib.Dec.{ltb, leb, eqb}

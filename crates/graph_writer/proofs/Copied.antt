@@ -1,15 +1,12 @@
 -- A graph that was read is written without a fault, but for want of room.
 use mathlib.Core.Path.{_≡_, refl, sym, ap, ap₂, _∙_}
-use mathlib.Core.Bool.{true, _&&_}
-use mathlib.Core.List.{List, map}
-use Prim.Native.Nat.{ℕ, _+_, _<_, _≤_}
+use mathlib.Core.List.{List}
+use Prim.Native.Nat.{ℕ, _<_}
 use native.Mathlib.Omega.{arith}
 use lib.ListN.{length, take}
 use lib.Dec.{leb}
-use Rattle.std.specs.Iters.{counting}
 use Rattle.std.specs.declared.option.Option.{Option}
 use Rattle.std.specs.declared.option.Option.the-variants.{Some, None}
-use Rattle.std.specs.declared.result.Result.{Result}
 use Rattle.std.specs.declared.result.Result.the-variants.{Ok, Err}
 use Rattle.std.proofs.shelf.Lists.{length-map}
 use Rattle.std.proofs.shelf.Counted.{length-map-counting, getD-map-counting}
@@ -19,7 +16,7 @@ use Rattle.refusals.proofs.Searching.{orElse-none, wrapped-none, unless-none, n
 use Rattle.headers.specs.declared.kinds.Kind.{Kind}
 use Rattle.graphs.specs.declared.graph.Graph.{Graph}
 use Rattle.graphs.specs.declared.graph.Node.{Node}
-use Rattle.graphs.specs.View.{NodeView, nodeView, noNode, graphView, nodeAt, Counts}
+use Rattle.graphs.specs.View.{NodeView, nodeView, noNode, graphView, Counts}
 use Rattle.graphs.specs.Checking.{graphFault}
 use Rattle.graphs.proofs.Noding.{node-at}
 use Rattle.graph_reader.specs.declared.fault.FileFault.the-variants.{Shape, Byte}

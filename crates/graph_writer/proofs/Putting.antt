@@ -6,10 +6,9 @@ use native.Mathlib.Nat.{add-zero, zero-add}
 use native.Mathlib.Omega.{arith}
 use lib.ListN.{length, take, drop, getD}
 use Rattle.std.specs.shelf.Lists.{joined}
-use Rattle.std.proofs.shelf.Lists.{length-append, take-more, take-all, joined-more, take-append-drop, map-more, length-map, length-take-le}
+use Rattle.std.proofs.shelf.Lists.{length-append, take-more, joined-more, take-append-drop, map-more, length-map, length-take-le}
 use lib.Dec.{leb}
-use Rattle.std.proofs.shelf.Tests.{le-leb}
-use Rattle.std.specs.declared.option.Option.the-variants.{Some, None}
+use Rattle.std.specs.declared.option.Option.the-variants.{None}
 use Rattle.headers.specs.declared.kinds.Kind.{Kind}
 use Rattle.graphs.specs.declared.graph.Graph.{Graph}
 use Rattle.graph_writer.specs.declared.fault.WriteFault.the-variants.{File, Graph as InGraph, Area}

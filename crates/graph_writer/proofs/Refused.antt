@@ -1,9 +1,9 @@
 -- What writing tells of a graph is its least fault.
-use mathlib.Core.Path.{_≡_, refl, sym, ap, subst, _∙_}
-use mathlib.Core.Bool.{Bool, true, false, _&&_}
+use mathlib.Core.Path.{_≡_, refl, sym, ap, subst}
+use mathlib.Core.Bool.{false, _&&_}
 use mathlib.Core.List.{List}
 use mathlib.Core.Logic.{_⊎_, inl, inr}
-use Prim.Native.Nat.{ℕ, _+_, _<_, _≤_}
+use Prim.Native.Nat.{ℕ}
 use native.Mathlib.Omega.{arith}
 use lib.ListN.{length, take}
 use lib.Dec.{leb}
@@ -18,8 +18,7 @@ use Rattle.headers.specs.declared.kinds.Kind.{Kind}
 use Rattle.graphs.specs.declared.graph.Graph.{Graph}
 use Rattle.graphs.specs.declared.graph.Node.{Node}
 use Rattle.graphs.specs.declared.fault.GraphFault.{GraphFault}
-use Rattle.graphs.specs.View.{NodeView, graphView}
-use Rattle.graphs.specs.Faults.{ofGraph}
+use Rattle.graphs.specs.View.{graphView}
 use Rattle.graphs.specs.Refusals.{GraphApplies}
 use Rattle.graphs.specs.Checking.{graphFault}
 use Rattle.graphs.proofs.Refused.{graph-lowest}
@@ -27,7 +26,7 @@ use Rattle.graph_reader.specs.declared.fault.FileFault.{FileFault}
 use Rattle.graph_reader.specs.declared.fault.FileFault.the-variants.{Shape, Pair, Byte}
 use Rattle.graph_reader.specs.Records.{right}
 use Rattle.graph_reader.specs.Faults.{ofFile}
-use Rattle.graph_reader.proofs.Refused.{before, file-below, file-rank, graph-ranks, RecordTold, ByteTold, bytes-lowest}
+use Rattle.graph_reader.proofs.Refused.{before, file-below, file-rank, graph-ranks, ByteTold, bytes-lowest}
 use Rattle.graph_writer.specs.declared.fault.WriteFault.{WriteFault}
 use Rattle.graph_writer.specs.declared.fault.WriteFault.the-variants.{File, Graph as InGraph, Area}
 use Rattle.graph_writer.specs.Faults.{ofWrite}

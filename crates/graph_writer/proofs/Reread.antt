@@ -1,6 +1,6 @@
 -- What is written is read as the same graph.
 use mathlib.Core.Path.{_≡_, refl, sym, ap, _∙_}
-use mathlib.Core.List.{List, map}
+use mathlib.Core.List.{List}
 use Prim.Native.Nat.{ℕ, _<_, _≤_}
 use native.Mathlib.Omega.{arith}
 use lib.ListN.{length, take}
@@ -8,7 +8,7 @@ use lib.Dec.{leb}
 use Rattle.std.specs.declared.option.Option.the-variants.{None}
 use Rattle.std.proofs.shelf.Lists.{length-map}
 use Rattle.std.proofs.shelf.Tests.{and-parts, leb-true}
-use Rattle.refusals.specs.Searching.{orElse, unless, wrapped}
+use Rattle.refusals.specs.Searching.{unless, wrapped}
 use Rattle.refusals.proofs.Searching.{orElse-none, wrapped-none, unless-none, nowhere}
 use Rattle.headers.specs.declared.kinds.Kind.{Kind}
 use Rattle.graphs.specs.declared.graph.Graph.{Graph}

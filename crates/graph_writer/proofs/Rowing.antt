@@ -4,18 +4,14 @@ use mathlib.Core.List.{List, [], _∷_, _++_}
 use Prim.Native.Nat.{ℕ, zero, suc, _+_, _-_, _*_, _<_, _≤_}
 use native.Mathlib.Nat.{add-zero}
 use native.Mathlib.Omega.{arith}
-use lib.ListN.{length, take, drop, getD}
+use lib.ListN.{length, take, drop}
 use Rattle.std.specs.shelf.Lists.{joined}
 use Rattle.std.proofs.shelf.Lists.{length-append, length-take-le, take-more, take-all, joined-more, take-append-drop, take-at}
-use Rattle.patterns.specs.declared.row.Target.{Target}
-use Rattle.patterns.specs.declared.row.Target.the-variants.{Node as ToNode, Done, Dropped}
-use Rattle.patterns.specs.declared.row.TernaryRow.{TernaryRow}
-use Rattle.patterns.specs.declared.row.RangeRow.{RangeRow}
 use Rattle.graphs.specs.declared.graph.Length.{Length}
 use Rattle.graphs.specs.declared.graph.Length.the-variants.{Fixed, Counted}
 use Rattle.graphs.specs.declared.graph.Node.{Node}
 use Rattle.graphs.specs.View.{RowsView, ternaryRows, rangeRows, rowCount, nodeView}
-use Rattle.graph_reader.specs.Encoding.{lengthBytes, targetBytes, ternaryBytes, rangeBytes, rowBytes, placeBytes, sortByte, recordWith, recordOf}
+use Rattle.graph_reader.specs.Encoding.{lengthBytes, ternaryBytes, rangeBytes, rowBytes, placeBytes, sortByte, recordWith, recordOf}
 use mathlib.Core.Bool.{true, cond}
 use lib.Dec.{ltb}
 use Rattle.std.proofs.shelf.Tests.{cond-true, lt-ltb, leb-true, and-parts}
@@ -28,7 +24,7 @@ use Rattle.refusals.proofs.Searching.{holds}
 use Rattle.graph_writer.specs.Writing.{recordFor}
 use Rattle.graph_writer.specs.Parts.{Counted as Counts, placeByte, written, headOf, rowAt, firstRows, bytesFor}
 use Rattle.graph_reader.proofs.Places.{ternary-length, range-length, joined-length}
-use Rattle.graph_writer.proofs.Written.{written-more, length-written}
+use Rattle.graph_writer.proofs.Written.{written-more}
 
 length-of : (l : Length) (xs : List ℕ) → length (lengthBytes l ++ xs) ≡ 7 + length xs
 length-of (Fixed n) xs = omega arith

@@ -1,9 +1,7 @@
 // Writing a graph as a file.
 ghost use mathlib.Core.Path.{_≡_};
-ghost use mathlib.Core.List.{map};
 ghost use Prim.Native.Nat.{_<_};
 ghost use lib.ListN.{length};
-ghost use Rattle.std.specs.shelf.Lists.{joined};
 ghost use Rattle.std.specs.Vec.{made};
 ghost use Rattle.refusals.specs.Searching.{faultOf, unlessFault};
 ghost use Rattle.headers.specs.Table.{minimumIn, standardTable};

@@ -1,6 +1,6 @@
 -- What a check of a graph tells is its least fault.
 use mathlib.Core.Path.{_≡_, refl, sym, ap, subst, _∙_}
-use mathlib.Core.Bool.{Bool, true, false, _&&_}
+use mathlib.Core.Bool.{true, false, _&&_}
 use mathlib.Core.List.{List}
 use mathlib.Core.Logic.{_⊎_, inl, inr}
 use Prim.Native.Nat.{ℕ, _+_, _<_, _≤_, _^_}
@@ -12,7 +12,6 @@ use Rattle.std.specs.declared.option.Option.the-variants.{Some, None}
 use Rattle.std.specs.declared.result.Result.{Result}
 use Rattle.std.specs.declared.result.Result.the-variants.{Ok, Err}
 use Rattle.std.proofs.shelf.Tests.{cases-lt, both-ways, lt-ltb, le-ltb, leb-false, lt-leb, and-from, and-left, and-right}
-use Rattle.refusals.specs.declared.refusal.Refusal.{Refusal}
 use Rattle.refusals.specs.Searching.{orElse, faultOf}
 use Rattle.refusals.specs.Least.{NotAfter, Answers}
 use Rattle.refusals.proofs.Lowest.{Lowest, lowest-like, lowest-or, lowest-of, lowest-unless, lowest-wrapped, lower}

@@ -1,6 +1,6 @@
 -- The checks of a graph as tests, and the first fault that they find. `Refusals` says the same in words.
 use mathlib.Core.List.{List}
-use mathlib.Core.Bool.{Bool, true, false, _&&_}
+use mathlib.Core.Bool.{Bool, true, _&&_}
 use Prim.Native.Nat.{ℕ}
 use lib.ListN.{length}
 use lib.Dec.{ltb, leb}

@@ -1,13 +1,13 @@
 // Whether a graph is sound.
 ghost use mathlib.Core.Path.{_≡_};
-ghost use Prim.Native.Nat.{ℕ, _<_, _≤_};
+ghost use Prim.Native.Nat.{ℕ, _<_};
 ghost use lib.ListN.{length};
 ghost use Rattle.std.specs.Options.{Cases};
 ghost use Rattle.std.specs.declared.option.Option.{Option};
 ghost use Rattle.refusals.specs.Searching.{faultOf};
 ghost use Rattle.refusals.specs.Least.{Answers};
 ghost use Rattle.headers.specs.Table.{minimumIn};
-ghost use Rattle.graphs.specs.View.{NodeView, nodeView, graphView, rowCount};
+ghost use Rattle.graphs.specs.View.{NodeView, nodeView, graphView};
 ghost use Rattle.graphs.specs.Faults.{ofGraph};
 ghost use Rattle.graphs.specs.declared.fault.GraphFault.{GraphFault};
 ghost use Rattle.graphs.specs.Refusals.{GraphApplies};

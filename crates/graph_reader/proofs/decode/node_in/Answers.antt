@@ -1,6 +1,6 @@
-use mathlib.Core.Path.{_≡_, sym, ap, _∙_}
+use mathlib.Core.Path.{sym, ap, _∙_}
 use Rattle.std.proofs.shelf.Lists.{length-take-le}
-use Rattle.graphs.specs.View.{nodeView, rowCount}
+use Rattle.graphs.specs.View.{rowCount}
 use Rattle.graph_reader.specs.Decoding.{nodeIn}
 use Rattle.graph_reader.proofs.Filed.{row-count}
 use Rattle.graph_reader.proofs.decode.node_in.Needs as need

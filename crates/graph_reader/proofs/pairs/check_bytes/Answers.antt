@@ -1,4 +1,3 @@
-use borrow.Author.Needs.{needs}
 use native.Mathlib.Omega.{arith}
 use mathlib.Core.Path.{sym, ap, _∙_}
 use Rattle.std.specs.declared.result.Result.the-variants.{Err}
@@ -6,7 +5,7 @@ use Rattle.std.proofs.shelf.Results.{err-from-errBy}
 use Rattle.refusals.specs.Searching.{faultOf}
 use Rattle.graph_reader.specs.declared.fault.FileFault.the-variants.{Pair}
 use Rattle.graph_reader.specs.Files.{pairRight, recordFault}
-use Rattle.refusals.proofs.Searching.{holds, found, passed, ended}
+use Rattle.refusals.proofs.Searching.{holds, found, passed}
 use Rattle.graph_reader.proofs.pairs.check_bytes.Needs as need
 
 pub check-record-requires : need.check-record-requires

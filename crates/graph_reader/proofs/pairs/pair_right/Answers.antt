@@ -1,6 +1,4 @@
 use borrow.Author.Needs.{needs}
-use native.Mathlib.Omega.{arith}
-use Rattle.std.proofs.shelf.Ways.{tells}
 use Rattle.graph_reader.specs.Files.{pairRight}
 use Rattle.graph_reader.proofs.pairs.pair_right.Needs as need
 

@@ -1,4 +1,3 @@
-use borrow.Author.Needs.{needs}
 use native.Mathlib.Omega.{arith}
 use Rattle.graph_reader.proofs.Pairing.{right-says}
 use Rattle.graph_reader.proofs.pairs.record_of.Needs as need

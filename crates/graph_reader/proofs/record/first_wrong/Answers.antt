@@ -1,6 +1,4 @@
 use borrow.Author.Needs.{needs}
-use mathlib.Core.Path.{_≡_}
-use mathlib.Core.Bool.{false, true}
 use native.Mathlib.Omega.{arith}
 use Rattle.graph_reader.specs.Records.{right}
 use Rattle.refusals.specs.Searching.{unless}

@@ -1,7 +1,7 @@
 use mathlib.Core.Path.{_≡_}
 use mathlib.Core.List.{map}
 use Prim.Native.Nat.{_+_, _*_, _≤_}
-use lib.ListN.{length, take}
+use lib.ListN.{take}
 use Rattle.graphs.specs.View.{nodeView}
 use Rattle.graph_reader.specs.Encoding.{pairsFrom}
 use Rattle.graph_writer.specs.Parts.{written}

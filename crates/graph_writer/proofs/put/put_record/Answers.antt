@@ -1,12 +1,10 @@
-use borrow.Author.Needs.{needs}
 use mathlib.Core.Path.{_≡_, sym, ap, ap₂, _∙_}
-use Prim.Native.Nat.{_+_, _*_, _≤_}
+use Prim.Native.Nat.{_+_, _*_}
 use native.Mathlib.Omega.{arith}
 use lib.ListN.{length}
 use Rattle.graphs.specs.View.{nodeView, rowCount}
 use Rattle.graph_reader.specs.Encoding.{rowBytes}
-use Rattle.graph_writer.specs.Parts.{written, firstRows, headOf}
-use Rattle.graph_writer.proofs.Written.{length-written}
+use Rattle.graph_writer.specs.Parts.{written, firstRows}
 use Rattle.graph_writer.proofs.Rowing.{rows-none, rows-step, record-put, bytes-length, record-for}
 use Rattle.graph_writer.proofs.put.put_record.Needs as need
 

@@ -1,4 +1,4 @@
-use mathlib.Core.Path.{_≡_, ap, subst, _∙_}
+use mathlib.Core.Path.{ap, subst, _∙_}
 use lib.ListN.{length}
 use Rattle.std.specs.Vec.{made}
 use Rattle.refusals.specs.Searching.{unlessFault}

@@ -1,11 +1,8 @@
 use borrow.Author.Needs.{needs}
 use native.Mathlib.Omega.{arith}
-use mathlib.Core.Path.{sym, ap, _∙_}
-use Rattle.graphs.specs.declared.fault.GraphFault.the-variants.{Target}
 use Rattle.graphs.specs.View.{nodeView, rowCount}
-use Rattle.refusals.specs.Searching.{unless}
-use Rattle.graphs.specs.Checking.{rowFault, targetSound}
-use Rattle.refusals.proofs.Searching.{found, passed, ended}
+use Rattle.graphs.specs.Checking.{rowFault}
+use Rattle.refusals.proofs.Searching.{found, passed}
 use Rattle.graphs.proofs.check.targets_of.Needs as need
 
 pub returns-then-not-target-sound : need.returns-then-not-target-sound

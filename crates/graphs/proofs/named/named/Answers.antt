@@ -1,7 +1,5 @@
-use borrow.Author.Needs.{needs}
 use mathlib.Core.Path.{sym}
 use native.Mathlib.Omega.{arith}
-use lib.ListN.{length-take}
 use Rattle.std.proofs.shelf.Lists.{take-all}
 use Rattle.graphs.proofs.named.named.Needs as need
 

@@ -1,11 +1,11 @@
-use mathlib.Core.Path.{_≡_, sym, ap, _∙_}
+use mathlib.Core.Path.{sym, ap, _∙_}
 use mathlib.Core.List.{map}
 use native.Mathlib.Omega.{arith}
 use Prim.Native.Nat.{_≤_}
 use lib.ListN.{length}
 use Rattle.std.proofs.shelf.Lists.{getD-past, length-map}
 use Rattle.std.proofs.shelf.Tests.{ltb-true, ltb-false}
-use Rattle.graphs.specs.View.{nodeView, graphView, nodeAt}
+use Rattle.graphs.specs.View.{nodeView, graphView}
 use Rattle.graphs.specs.Deciding.{decide}
 use Rattle.graphs.proofs.Noding.{node-at}
 use Rattle.graphs.proofs.graph.Graph.decide.Needs as need
