@@ -1,4 +1,7 @@
 // Capture files in the libpcap format: the header of a file, and its records one after the other.
+
+#![tactic(auto)]
+
 pub mod bytes;
 pub mod fault;
 pub mod format;

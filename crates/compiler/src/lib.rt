@@ -1,4 +1,7 @@
 // From a graph file and a plan to a filled store, and what a reader keeps beside it.
+
+#![tactic(auto)]
+
 pub mod actions;
 mod bytes;
 pub mod compile;

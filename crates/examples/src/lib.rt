@@ -1,4 +1,7 @@
 // Worked examples as tests, in a crate of their own so that the crates below are proved once.
+
+#![tactic(auto)]
+
 #[cfg(test)]
 mod fields;
 #[cfg(test)]

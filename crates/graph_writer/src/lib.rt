@@ -1,4 +1,7 @@
 // Writing a parse graph as a file.
+
+#![tactic(auto)]
+
 pub mod copy;
 pub mod fault;
 mod put;

@@ -7,7 +7,7 @@ use crate::pattern::Pattern;
 
 /// Whether the row makes a pattern that the key fits.
 fn row_fits<P: Pattern>(row: &P::Plain, key: P::Key) -> bool
-    ensures { result ≡ row_fits made fits key row.now }
+    ensures { result ≡ row_fits P.made P.fits key row.now }
 {
     match P::make(row) {
         Some(pattern) => pattern.fits(key),
@@ -17,8 +17,8 @@ fn row_fits<P: Pattern>(row: &P::Plain, key: P::Key) -> bool
 
 /// The place of the first row that the key fits. Where no row fits, the answer is `None`.
 pub fn first_fit<P: Pattern>(rows: &[P::Plain], key: P::Key) -> Option<usize>
-    ensures is { result ≡ first_fit made fits key rows.now }
-    ensures first { First (FitsAt made fits rows.now key) result }
+    ensures is { result ≡ first_fit P.made P.fits key rows.now }
+    ensures first { First (FitsAt P.made P.fits rows.now key) result }
     ensures within { IfSome result (λ i. i < length rows.now) }
 {
     for (i, row) in rows.iter().enumerate() {
@@ -31,7 +31,7 @@ pub fn first_fit<P: Pattern>(rows: &[P::Plain], key: P::Key) -> Option<usize>
 
 /// Whether the row makes a pattern that covers the other.
 fn row_covers<P: Pattern>(row: &P::Plain, other: &P) -> bool
-    ensures { result ≡ row_covers made covers other.now row.now }
+    ensures { result ≡ row_covers P.made P.covers other.now row.now }
 {
     match P::make(row) {
         Some(pattern) => pattern.covers(other),
@@ -41,7 +41,7 @@ fn row_covers<P: Pattern>(row: &P::Plain, other: &P) -> bool
 
 /// Whether one of the rows covers the pattern.
 fn any_covers<P: Pattern>(rows: &[P::Plain], other: &P) -> bool
-    ensures { result ≡ any_covers made covers other.now rows.now }
+    ensures { result ≡ any_covers P.made P.covers other.now rows.now }
 {
     for row in rows {
         if row_covers::<P>(row, other) {
@@ -54,7 +54,7 @@ fn any_covers<P: Pattern>(rows: &[P::Plain], other: &P) -> bool
 /// Whether the row makes a pattern that one of the first `i` rows covers.
 fn row_covered<P: Pattern>(rows: &[P::Plain], i: usize, row: &P::Plain) -> bool
     requires { i < length rows.now }
-    ensures { result ≡ covered made covers (take i rows.now) row.now }
+    ensures { result ≡ covered P.made P.covers (take i rows.now) row.now }
 {
     match P::make(row) {
         Some(pattern) => any_covers::<P>(&rows[0..i], &pattern),
@@ -64,8 +64,8 @@ fn row_covered<P: Pattern>(rows: &[P::Plain], i: usize, row: &P::Plain) -> bool
 
 /// The place of the first row that a row before it covers, so that it never decides. Where there is none, the answer is `None`.
 pub fn first_covered<P: Pattern>(rows: &[P::Plain]) -> Option<usize>
-    ensures is { result ≡ first_covered made covers rows.now }
-    ensures first { First (CoveredAt keys made fits rows.now) result }
+    ensures is { result ≡ first_covered P.made P.covers rows.now }
+    ensures first { First (CoveredAt P.keys P.made P.fits rows.now) result }
     ensures within { IfSome result (λ i. i < length rows.now) }
 {
     for (i, row) in rows.iter().enumerate() {

@@ -1,4 +1,7 @@
 // Ternary and range patterns behind one interface, the searches in lists of plain rows, and the split of a range into ternary blocks.
+
+#![tactic(auto)]
+
 pub mod block;
 pub mod find;
 pub mod pattern;

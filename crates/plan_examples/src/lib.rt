@@ -1,4 +1,7 @@
 // Examples of loading: plans that are refused, and how many rows a store must be able to hold.
+
+#![tactic(auto)]
+
 #[cfg(test)]
 mod broken_plans;
 pub mod limited;

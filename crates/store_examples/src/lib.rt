@@ -1,4 +1,7 @@
 // Examples of what stores do, on every store alike.
+
+#![tactic(auto)]
+
 #[cfg(test)]
 mod agreement;
 #[cfg(test)]

@@ -1,4 +1,7 @@
 // Ternary stores: rows that are tried in order against questions, known by their meaning alone.
+
+#![tactic(auto)]
+
 pub mod fault;
 pub mod fill;
 pub mod listing;

@@ -1,4 +1,7 @@
 // tapctl: checks, shows and copies graph files. `tapctl` alone prints how it is called.
+
+#![tactic(auto)]
+
 mod command;
 mod commands;
 mod counts;

@@ -1,4 +1,7 @@
 // tapctl: checks, shows and copies graph files, and walks packets through them. `tapctl` alone prints how it is called.
+
+#![tactic(auto)]
+
 mod capture_text;
 mod command;
 mod commands;

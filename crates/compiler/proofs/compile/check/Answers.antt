@@ -18,41 +18,41 @@ use Rattle.refusals.specs.Least.{Least}
 use Rattle.compiler.proofs.Refused.{read_least, read_is, plan_least, room_least, nothing_left, size_is, roomy_cut}
 use Rattle.compiler.proofs.compile.check.Goals as goal
 
-pub returns-in-err-graph : goal.returns-in-err-graph
-returns-in-err-graph c =
+pub returns-in_err-graph : goal.returns-in_err-graph
+returns-in_err-graph c =
     let minimum = minimum_in c.args.table.now in
     let f = c.args.file.now in
     let p = c.args.plan.now in
     let e = err_from_is_err_and c.from-residual.result c.from-residual.ensures.1 in
     let told : Result Checked LoadFault → Type 0 = Answers of_load (LoadApplies minimum f p c.args.capacity) (λ x. Loadable minimum f p c.args.capacity x.graph x.chains) in
-    subst told (sym (e.1 ∙ ap Err e.2)) (read_least minimum f p c.args.capacity c.in-err-graph.field-0.0 c.in-err-graph.ensures.answers)
+    subst told (sym (e.1 ∙ ap Err e.2)) (read_least minimum f p c.args.capacity c.in_err-graph.field-0.0 c.in_err-graph.ensures.answers)
 
-pub returns-in-err-chains : goal.returns-in-err-chains
-returns-in-err-chains c =
+pub returns-in_err-chains : goal.returns-in_err-chains
+returns-in_err-chains c =
     let minimum = minimum_in c.args.table.now in
     let f = c.args.file.now in
     let p = c.args.plan.now in
-    let read = c.in-ok-graph.ensures in
-    let nodes = read_is minimum f (graph_view c.in-ok-graph.graph) read.is in
-    let e = err_from_is_err_and c.from-residual-in-err-chains.result c.from-residual-in-err-chains.ensures.1 in
+    let read = c.in_ok-graph.ensures in
+    let nodes = read_is minimum f (graph_view c.in_ok-graph.graph) read.is in
+    let e = err_from_is_err_and c.from-residual-in_err-chains.result c.from-residual-in_err-chains.ensures.1 in
     let told : Result Checked LoadFault → Type 0 = Answers of_load (LoadApplies minimum f p c.args.capacity) (λ x. Loadable minimum f p c.args.capacity x.graph x.chains) in
     subst told (sym (e.1 ∙ ap Err e.2))
-    (plan_least minimum f p c.args.capacity read.answers.0 c.in-err-chains.field-0.0
-    (subst (λ g. Least of_plan (PlanApplies g p) c.in-err-chains.field-0.0) nodes c.in-err-chains.ensures.answers))
+    (plan_least minimum f p c.args.capacity read.answers.0 c.in_err-chains.field-0.0
+    (subst (λ g. Least of_plan (PlanApplies g p) c.in_err-chains.field-0.0) nodes c.in_err-chains.ensures.answers))
 
-pub returns-in-err-check-room : goal.returns-in-err-check-room
-returns-in-err-check-room c =
+pub returns-in_err-check_room : goal.returns-in_err-check_room
+returns-in_err-check_room c =
     let minimum = minimum_in c.args.table.now in
     let f = c.args.file.now in
     let p = c.args.plan.now in
-    let read = c.in-ok-graph.ensures in
-    let nodes = read_is minimum f (graph_view c.in-ok-graph.graph) read.is in
-    let plan = c.in-ok-chains.ensures.answers in
-    let e = err_from_is_err_and c.from-residual-in-err-check-room.result c.from-residual-in-err-check-room.ensures.1 in
+    let read = c.in_ok-graph.ensures in
+    let nodes = read_is minimum f (graph_view c.in_ok-graph.graph) read.is in
+    let plan = c.in_ok-chains.ensures.answers in
+    let e = err_from_is_err_and c.from-residual-in_err-check_room.result c.from-residual-in_err-check_room.ensures.1 in
     let told : Result Checked LoadFault → Type 0 = Answers of_load (LoadApplies minimum f p c.args.capacity) (λ x. Loadable minimum f p c.args.capacity x.graph x.chains) in
     subst told (sym (e.1 ∙ ap Err e.2))
-    (room_least minimum f p c.args.capacity read.answers.0 (subst (λ g. (d : PlanFault) → PlanApplies g p d → ⊥) nodes plan.0) c.row-count.result
-    (c.row-count.ensures ∙ ap₂ (λ g chain. min (store_count g chain) 65535) nodes plan.1.same) c.in-err-check-room.field-0.0 c.in-err-check-room.ensures)
+    (room_least minimum f p c.args.capacity read.answers.0 (subst (λ g. (d : PlanFault) → PlanApplies g p d → ⊥) nodes plan.0) c.row_count.result
+    (c.row_count.ensures ∙ ap₂ (λ g chain. min (store_count g chain) 65535) nodes plan.1.same) c.in_err-check_room.field-0.0 c.in_err-check_room.ensures)
 
 pub returns : goal.returns
 returns c =
@@ -60,15 +60,15 @@ returns c =
     let f = c.args.file.now in
     let p = c.args.plan.now in
     let capacity = c.args.capacity in
-    let g = c.in-ok-graph.graph in
-    let chains = c.in-ok-chains.chains in
-    let read = c.in-ok-graph.ensures in
+    let g = c.in_ok-graph.graph in
+    let chains = c.in_ok-chains.chains in
+    let read = c.in_ok-graph.ensures in
     let nodes = read_is minimum f (graph_view g) read.is in
-    let plan = c.in-ok-chains.ensures.answers in
-    let rows = c.row-count.result in
-    let fits : roomy rows capacity ≡ true = unless_none (roomy rows capacity) (TooMany rows) (sym c.in-ok-check-room.ensures) in
-    let room = roomy_cut (store_count (graph_view g) (chain_of chains)) capacity (ap (λ n. roomy n capacity) (sym c.row-count.ensures) ∙ fits) in (
+    let plan = c.in_ok-chains.ensures.answers in
+    let rows = c.row_count.result in
+    let fits : roomy rows capacity ≡ true = unless_none (roomy rows capacity) (TooMany rows) (sym c.in_ok-check_room.ensures) in
+    let room = roomy_cut (store_count (graph_view g) (chain_of chains)) capacity (ap (λ n. roomy n capacity) (sym c.row_count.ensures) ∙ fits) in (
       nothing_left minimum f p capacity read.answers.0 (subst (λ g. (d : PlanFault) → PlanApplies g p d → ⊥) nodes plan.0) rows
-          (c.row-count.ensures ∙ ap₂ (λ g chain. min (store_count g chain) 65535) nodes plan.1.same) fits,
-      record { read = sym read.is; same = plan.1.same; lawful = plan.1.lawful; size = size_is (graph_view g) p c.in-ok-chains.ensures.is; few = room.0; room = room.1 },
+          (c.row_count.ensures ∙ ap₂ (λ g chain. min (store_count g chain) 65535) nodes plan.1.same) fits,
+      record { read = sym read.is; same = plan.1.same; lawful = plan.1.lawful; size = size_is (graph_view g) p c.in_ok-chains.ensures.is; few = room.0; room = room.1 },
     )

@@ -10,10 +10,10 @@ returns g c =
     let f = c.args.file.now in
     let p = c.args.plan.now in
     let before = g.S.Store.meaning c.args.store.now in
-    let after = g.S.Store.meaning c.compile-by.new.store in
+    let after = g.S.Store.meaning c.compile_by.new.store in
     record {
       answers =
-          subst (λ table. Answers of_load (LoadApplies (minimum_in table) f p before.capacity) (λ _. Loaded (minimum_in table) f p before after c.compile-by.new.program) c.compile-by.result)
-          c.standard.ensures c.compile-by.ensures.answers;
-      kept = c.compile-by.ensures.kept;
+          subst (λ table. Answers of_load (LoadApplies (minimum_in table) f p before.capacity) (λ _. Loaded (minimum_in table) f p before after c.compile_by.new.program) c.compile_by.result)
+          c.standard.ensures c.compile_by.ensures.answers;
+      kept = c.compile_by.ensures.kept;
     }

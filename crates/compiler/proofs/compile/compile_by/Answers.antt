@@ -11,18 +11,18 @@ use Rattle.compiler.proofs.compile.compile_by.Goals as goal
 
 pub load-requires : goal.load-requires
 load-requires g c =
-    let l = c.in-ok-checked.ensures.1 in
+    let l = c.in_ok-checked.ensures.1 in
     record {
       few = l.few;
       room = omega (arith, l.room, c.capacity.ensures);
-      past = λ n h. ap (λ chain. chain n) l.same ∙ chain_past c.args.plan.now (length (graph_view c.in-ok-checked.checked.graph)) n l.size h;
+      past = λ n h. ap (λ chain. chain n) l.same ∙ chain_past c.args.plan.now (length (graph_view c.in_ok-checked.checked.graph)) n l.size h;
     }
 
 pub returns : goal.returns
 returns g c =
-    let checked = c.in-ok-checked.ensures in
+    let checked = c.in_ok-checked.ensures in
     let l = checked.1 in
-    let gr = graph_view c.in-ok-checked.checked.graph in
+    let gr = graph_view c.in_ok-checked.checked.graph in
     let m = g.S.Store.meaning c.args.store.now in
     record {
       answers = (

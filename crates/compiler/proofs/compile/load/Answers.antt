@@ -24,13 +24,13 @@ returns g c =
     let after = g.S.Store.meaning c.fill.new.store in
     let a = c.empty.new.actions in
     let b = c.fill.new.actions in
-    let few : length gr ≤ 32 = omega (arith, c.node-total-program.ensures.is, c.node-total-program.ensures.few) in
+    let few : length gr ≤ 32 = omega (arith, c.node_total-program.ensures.is, c.node_total-program.ensures.few) in
     record {
       answered = refl;
       rows = rows_stored m w a b after (store_rows gr chain) c.empty.ensures.rows c.empty.ensures.actions c.fill.ensures.after;
       stands = record {
-        count = c.node-total-program.ensures.is;
-        heads = all_heads gr chain c.heads-of-heads.result c.heads-of-heads.ensures.whole few c.requires.past c.heads-of-heads.ensures.each;
+        count = c.node_total-program.ensures.is;
+        heads = all_heads gr chain c.heads_of-heads.result c.heads_of-heads.ensures.whole few c.requires.past c.heads_of-heads.ensures.each;
         actions = actions_stored m w a b after (store_rows gr chain) c.empty.ensures.rows c.empty.ensures.actions c.fill.ensures.after;
       };
     }

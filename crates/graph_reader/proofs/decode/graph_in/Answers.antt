@@ -11,19 +11,19 @@ use Rattle.graph_reader.proofs.Filling.{shown_more, each_more}
 use Rattle.graph_reader.proofs.Recorded.{Whole, record_whole}
 use Rattle.graph_reader.proofs.decode.graph_in.Goals as goal
 
-pub record-of-requires : goal.record-of-requires
-record-of-requires c = (omega (arith, c.requires.few), holds (pair_right c.args.file.now) Pair _ _ c.requires.pairs (omega arith))
+pub record_of-requires : goal.record_of-requires
+record_of-requires c = (omega (arith, c.requires.few), holds (pair_right c.args.file.now) Pair _ _ c.requires.pairs (omega arith))
 
-pub node-in-requires : goal.node-in-requires
-node-in-requires c =
-    let w : Whole c.record-of.result.now = subst Whole (sym c.record-of.ensures) (record_whole c.args.file.now c.loop-i.i c.requires.pairs c.requires.bytes c.loop-i-test.true) in
+pub node_in-requires : goal.node_in-requires
+node_in-requires c =
+    let w : Whole c.record_of.result.now = subst Whole (sym c.record_of.ensures) (record_whole c.args.file.now c.loop-i.i c.requires.pairs c.requires.bytes c.loop-i-test.true) in
     record { some = w.some; rows = w.few; places = w.places; long = w.counted }
 
 pub loop-i-preserved : goal.loop-i-preserved
 loop-i-preserved c = (
-  shown_more node_view (λ i. node_in (record_at c.args.file.now i)) _ _ _ (omega (arith, c.requires.few)) (c.node-in.ensures.is ∙ ap node_in c.record-of.ensures) c.loop-i.invariant.0,
+  shown_more node_view (λ i. node_in (record_at c.args.file.now i)) _ _ _ (omega (arith, c.requires.few)) (c.node_in.ensures.is ∙ ap node_in c.record_of.ensures) c.loop-i.invariant.0,
   length-set _ _ _ ∙ c.loop-i.invariant.1,
-  each_more NodeCounts c.loop-i.nodes c.loop-i.i c.node-in.result no_node (omega (arith, c.loop-i.invariant.1, c.requires.few)) c.node-in.ensures.counts c.loop-i.invariant.2,
+  each_more NodeCounts c.loop-i.nodes c.loop-i.i c.node_in.result no_node (omega (arith, c.loop-i.invariant.1, c.requires.few)) c.node_in.ensures.counts c.loop-i.invariant.2,
 )
 
 pub returns : goal.returns

@@ -7,4 +7,4 @@ use Rattle.graph_reader.proofs.decode.node_in.Goals as goal
 
 pub returns : goal.returns
 unfolding node_in
-returns c = record { is = cc; counts = (sym (length-take-le _ _ c.requires.places), sym (ap row_count c.rows-in.ensures ∙ row_count_lem c.args.bytes.now)) }
+returns c = record { is = cc; counts = (sym (length-take-le _ _ c.requires.places), sym (ap row_count c.rows_in.ensures ∙ row_count_lem c.args.bytes.now)) }

@@ -6,13 +6,13 @@ use Rattle.graph_reader.specs.Files.{pair_right, record_fault}
 use Rattle.refusals.proofs.Searching.{holds, found, passed}
 use Rattle.graph_reader.proofs.pairs.check_bytes.Goals as goal
 
-pub check-record-requires : goal.check-record-requires
-check-record-requires c = holds (pair_right c.args.file.now) Pair _ _ c.requires.1 (omega arith)
+pub check_record-requires : goal.check_record-requires
+check_record-requires c = holds (pair_right c.args.file.now) Pair _ _ c.requires.1 (omega arith)
 
-pub returns-in-err-check-record : goal.returns-in-err-check-record
-returns-in-err-check-record c =
+pub returns-in_err-check_record : goal.returns-in_err-check_record
+returns-in_err-check_record c =
     let p = err_from_is_err_and c.from-residual.result c.from-residual.ensures.1 in
-    ap fault_of (p.1 ∙ ap Err p.2) ∙ found (record_fault c.args.file.now) _ _ c.loop-n.invariant _ c.loop-n-test.true (sym c.in-err-check-record.ensures)
+    ap fault_of (p.1 ∙ ap Err p.2) ∙ found (record_fault c.args.file.now) _ _ c.loop-n.invariant _ c.loop-n-test.true (sym c.in_err-check_record.ensures)
 
 pub loop-n-preserved : goal.loop-n-preserved
-loop-n-preserved c = passed (record_fault c.args.file.now) _ _ c.loop-n.invariant c.loop-n-test.true (sym c.in-ok-check-record.ensures)
+loop-n-preserved c = passed (record_fault c.args.file.now) _ _ c.loop-n.invariant c.loop-n-test.true (sym c.in_ok-check_record.ensures)

@@ -6,9 +6,9 @@ pub returns-then-file-i : goal.returns-then-file-i
 unfolding pair_right
 returns-then-file-i c = search rules
 
-pub returns-then-offset-begin-of : goal.returns-then-offset-begin-of
+pub returns-then-offset-begin_of : goal.returns-then-offset-begin_of
 unfolding pair_right
-returns-then-offset-begin-of c = search rules
+returns-then-offset-begin_of c = search rules
 
 pub returns-then-offset-size : goal.returns-then-offset-size
 unfolding pair_right

@@ -8,5 +8,5 @@ number2-offset-requires c = let p = right_says _ _ c.requires.1 in omega arith
 pub number2-size-requires : goal.number2-size-requires
 number2-size-requires c = let p = right_says _ _ c.requires.1 in omega arith
 
-pub slice-bounds-result-end : goal.slice-bounds-result-end
-slice-bounds-result-end c = let p = right_says _ _ c.requires.1 in omega arith
+pub slice_bounds-result-end : goal.slice_bounds-result-end
+slice_bounds-result-end c = let p = right_says _ _ c.requires.1 in omega arith

@@ -6,14 +6,14 @@ use Rattle.graph_reader.specs.Reading.{seen}
 use Rattle.graph_reader.proofs.Refused.{reading_graph}
 use Rattle.graph_reader.proofs.read.first_fault_or_graph.Goals as goal
 
-pub returns-in-err-check-graph : goal.returns-in-err-check-graph
-returns-in-err-check-graph c =
-    let p = err_from_is_err_and c.from-residual-in-err-check-graph.result c.from-residual-in-err-check-graph.ensures.1 in
+pub returns-in_err-check_graph : goal.returns-in_err-check_graph
+returns-in_err-check_graph c =
+    let p = err_from_is_err_and c.from-residual-in_err-check_graph.result c.from-residual-in_err-check_graph.ensures.1 in
     record {
       is =
           ap seen (p.1 ∙ ap Err p.2)
-          ∙ reading_graph (minimum_in c.args.table.now) c.args.file.now c.in-ok-check-shape.ensures c.in-ok-check-pairs.ensures c.in-ok-check-bytes.ensures
-          (graph_view c.graph-in-graph.result) c.graph-in-graph.ensures.is (Some _) c.in-err-check-graph.ensures.is;
+          ∙ reading_graph (minimum_in c.args.table.now) c.args.file.now c.in_ok-check_shape.ensures c.in_ok-check_pairs.ensures c.in_ok-check_bytes.ensures
+          (graph_view c.graph_in-graph.result) c.graph_in-graph.ensures.is (Some _) c.in_err-check_graph.ensures.is;
       counts = rw p.1 tt;
     }
 
@@ -21,7 +21,7 @@ pub returns : goal.returns
 returns c =
     record {
       is =
-          reading_graph (minimum_in c.args.table.now) c.args.file.now c.in-ok-check-shape.ensures c.in-ok-check-pairs.ensures c.in-ok-check-bytes.ensures
-          (graph_view c.graph-in-graph.result) c.graph-in-graph.ensures.is None c.in-ok-check-graph.ensures.is;
-      counts = c.graph-in-graph.ensures.counts;
+          reading_graph (minimum_in c.args.table.now) c.args.file.now c.in_ok-check_shape.ensures c.in_ok-check_pairs.ensures c.in_ok-check_bytes.ensures
+          (graph_view c.graph_in-graph.result) c.graph_in-graph.ensures.is None c.in_ok-check_graph.ensures.is;
+      counts = c.graph_in-graph.ensures.counts;
     }

@@ -10,9 +10,9 @@ use Rattle.graph_reader.proofs.read.read_graph.Goals as goal
 pub returns : goal.returns
 returns c =
     let file = c.args.file.now in
-    let answer = seen c.read-graph-by.result in
+    let answer = seen c.read_graph_by.result in
     record {
-      is = c.read-graph-by.ensures.is ∙ ap (λ table. reading (minimum_in table) file) c.standard.ensures;
-      answers = subst (λ table. Answers of_read (Applies (minimum_in table) file) (λ nodes. encode nodes ≡ file) answer) c.standard.ensures c.read-graph-by.ensures.answers;
-      counts = c.read-graph-by.ensures.counts;
+      is = c.read_graph_by.ensures.is ∙ ap (λ table. reading (minimum_in table) file) c.standard.ensures;
+      answers = subst (λ table. Answers of_read (Applies (minimum_in table) file) (λ nodes. encode nodes ≡ file) answer) c.standard.ensures c.read_graph_by.ensures.answers;
+      counts = c.read_graph_by.ensures.counts;
     }

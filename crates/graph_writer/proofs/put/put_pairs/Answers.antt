@@ -11,7 +11,7 @@ loop-n-init c = (written_none c.args.area.now 2, omega arith, omega arith)
 
 pub loop-n-preserved : goal.loop-n-preserved
 loop-n-preserved c =
-    let rows = c.row-total.ensures in (
+    let rows = c.row_total.ensures in (
       c.put.ensures
           ∙ ap₂ (λ a s. written a (2 + 4 * c.loop-n.n) (two c.loop-n.next ++ two s)) c.loop-n.invariant.0 (ap (λ m. 16 + 10 * m) rows.is)
           ∙ pairs_put c.args.nodes.now c.loop-n.n _ c.loop-n-test.true c.args.area.now c.args.from c.loop-n.next c.loop-n.invariant.1 (omega (arith, c.requires.room)),

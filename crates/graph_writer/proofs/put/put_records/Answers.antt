@@ -12,7 +12,7 @@ loop-n-init c = (written_none c.args.area.now c.args.at, omega arith, omega arit
 
 pub loop-n-preserved : goal.loop-n-preserved
 loop-n-preserved c =
-    let rec = c.put-record-next.ensures in (
+    let rec = c.put_record-next.ensures in (
       rec.area ∙ ap (λ a. written a c.loop-n.next (record_for (node_of c.args.nodes.now c.loop-n.n))) c.loop-n.invariant.0
           ∙ records_put c.args.nodes.now c.loop-n.n _ c.loop-n-test.true c.args.area.now c.args.at c.loop-n.next c.loop-n.invariant.1 (omega (arith, c.loop-n.invariant.2)),
       omega (arith, c.loop-n.invariant.1, rec.is, records_length c.args.nodes.now c.loop-n.n no_node c.loop-n-test.true),

@@ -5,20 +5,20 @@ use Rattle.graph_writer.specs.Writing.{record_fault_at}
 use Rattle.refusals.proofs.Searching.{found, passed, ended}
 use Rattle.graph_writer.proofs.write.check_records.Goals as goal
 
-pub returns-in-err-check-node : goal.returns-in-err-check-node
-returns-in-err-check-node c =
+pub returns-in_err-check_node : goal.returns-in_err-check_node
+returns-in_err-check_node c =
     let p = err_from_is_err_and c.from-residual.result c.from-residual.ensures.1 in
     record {
       is =
           ap fault_of (p.1 ∙ ap Err p.2)
-          ∙ found (record_fault_at c.args.nodes.now) c.loop-n.n (length c.args.nodes.now) c.loop-n.invariant.0 _ c.loop-n-test.true (sym c.in-err-check-node.ensures.is);
+          ∙ found (record_fault_at c.args.nodes.now) c.loop-n.n (length c.args.nodes.now) c.loop-n.invariant.0 _ c.loop-n-test.true (sym c.in_err-check_node.ensures.is);
       stand = rw p.1 tt;
     }
 
 pub loop-n-preserved : goal.loop-n-preserved
 loop-n-preserved c = (
-  passed (record_fault_at c.args.nodes.now) c.loop-n.n (length c.args.nodes.now) c.loop-n.invariant.0 c.loop-n-test.true (sym c.in-ok-check-node.ensures.is),
-  below_more _ _ c.loop-n.invariant.1 c.in-ok-check-node.ensures.stands,
+  passed (record_fault_at c.args.nodes.now) c.loop-n.n (length c.args.nodes.now) c.loop-n.invariant.0 c.loop-n-test.true (sym c.in_ok-check_node.ensures.is),
+  below_more _ _ c.loop-n.invariant.1 c.in_ok-check_node.ensures.stands,
 )
 
 pub returns : goal.returns

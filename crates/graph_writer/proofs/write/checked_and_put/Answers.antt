@@ -11,16 +11,16 @@ pub returns : goal.returns
 returns c =
     let g = c.args.graph.now in
     let area = c.args.area.now in
-    let ns = c.named-nodes.result.now in
-    let shown = c.named-nodes.ensures.is in
+    let ns = c.named_nodes.result.now in
+    let shown = c.named_nodes.ensures.is in
     let same : file_for ns ≡ encode (graph_view g) =
-    file_encodes ns (subst Standing (sym shown) c.in-ok-first-fault.ensures.writable.stand)
+    file_encodes ns (subst Standing (sym shown) c.in_ok-first_fault.ensures.writable.stand)
     ∙ ap (λ ms. encode (map node_view ms)) shown in
-    let none = c.in-ok-first-fault.ensures.is in
+    let none = c.in_ok-first_fault.ensures.is in
     record {
-      is = ap Ok (c.put-file.ensures.is ∙ ap length same) ∙ ap (λ o. unless_fault o (length (encode (graph_view g)))) none;
+      is = ap Ok (c.put_file.ensures.is ∙ ap length same) ∙ ap (λ o. unless_fault o (length (encode (graph_view g)))) none;
       area =
-          c.put-file.ensures.area ∙ ap (written area 0) same ∙ written_all area (encode (graph_view g))
+          c.put_file.ensures.area ∙ ap (written area 0) same ∙ written_all area (encode (graph_view g))
           ∙ ap (λ o. area_after o (encode (graph_view g)) area) none;
-      writable = c.in-ok-first-fault.ensures.writable;
+      writable = c.in_ok-first_fault.ensures.writable;
     }

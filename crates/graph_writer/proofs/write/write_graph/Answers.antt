@@ -16,9 +16,9 @@ returns c =
     let file = encode (graph_view g) in
     let is = c.standard.ensures in
     record {
-      is = c.write-graph-by.ensures.is ∙ ap (λ table. unless_fault (write_fault (minimum_in table) g (length area)) (length file)) is;
-      area = c.write-graph-by.ensures.area ∙ ap (λ table. area_after (write_fault (minimum_in table) g (length area)) file area) is;
+      is = c.write_graph_by.ensures.is ∙ ap (λ table. unless_fault (write_fault (minimum_in table) g (length area)) (length file)) is;
+      area = c.write_graph_by.ensures.area ∙ ap (λ table. area_after (write_fault (minimum_in table) g (length area)) file area) is;
       answers =
-          subst (λ table. Answers of_write (WriteApplies (minimum_in table) g (length area)) (λ _. ReadsBack (minimum_in table) (graph_view g)) c.write-graph-by.result) is
-          c.write-graph-by.ensures.answers;
+          subst (λ table. Answers of_write (WriteApplies (minimum_in table) g (length area)) (λ _. ReadsBack (minimum_in table) (graph_view g)) c.write_graph_by.result) is
+          c.write_graph_by.ensures.answers;
     }

@@ -15,13 +15,13 @@ returns c =
     let room = length c.args.area.now in
     let size = length (encode (graph_view g)) in
     let minimum = minimum_in c.args.table.now in
-    let is = c.checked-and-put.ensures.is in
+    let is = c.checked_and_put.ensures.is in
     record {
       is = is;
-      area = c.checked-and-put.ensures.area;
+      area = c.checked_and_put.ensures.area;
       answers =
           answered minimum g room (λ _. ReadsBack minimum (graph_view g)) size
           (λ clear. written_reads_back minimum g room clear
-          (subst (λ r. IfOk r (λ _. Writable g room)) (is ∙ ap (λ o. unless_fault o size) clear) c.checked-and-put.ensures.writable))
-          c.checked-and-put.result is;
+          (subst (λ r. IfOk r (λ _. Writable g room)) (is ∙ ap (λ o. unless_fault o size) clear) c.checked_and_put.ensures.writable))
+          c.checked_and_put.result is;
     }

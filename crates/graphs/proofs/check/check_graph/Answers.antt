@@ -5,5 +5,5 @@ use Rattle.graphs.proofs.check.check_graph.Goals as goal
 
 pub returns : goal.returns
 returns c =
-    let is = c.first-fault.ensures in
-    record { is = is; answers = answered (minimum_in c.args.table.now) (graph_view c.args.graph.now) c.first-fault.result is }
+    let is = c.first_fault.ensures in
+    record { is = is; answers = answered (minimum_in c.args.table.now) (graph_view c.args.graph.now) c.first_fault.result is }

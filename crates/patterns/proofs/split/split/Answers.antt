@@ -21,8 +21,8 @@ loop-low-preserved c =
     let long : length out ≡ 30 = c.loop-low.invariant.3 in
     let r : n < 30 = room out n low high from c.loop-low.invariant.0 (omega (arith, c.loop-low.invariant.2)) wide c.loop-low-test.true in
     let i : n < length out = omega arith in
-    let b = c.block-at.result in (
-      write out n low high from c.loop-low.invariant.0 c.step-count.result b c.step-count.ensures.is c.block-at.ensures c.loop-low-test.true i,
+    let b = c.block_at.result in (
+      write out n low high from c.loop-low.invariant.0 c.step-count.result b c.step-count.ensures.is c.block_at.ensures c.loop-low-test.true i,
       drop_next out c.args.out.now n b c.loop-low.invariant.1,
       omega arith,
       simp length-set long,

@@ -9,8 +9,8 @@ loop-k-init c = (omega arith, refl)
 
 pub loop-k-preserved : goal.loop-k-preserved
 loop-k-preserved c =
-    (omega arith, sym (largest_down _ _ _ c.loop-k-test.true (sym c.if-not-block-ok.ensures)) ∙ c.loop-k.invariant.1)
+    (omega arith, sym (largest_down _ _ _ c.loop-k-test.true (sym c.if-not-block_ok.ensures)) ∙ c.loop-k.invariant.1)
 
-pub returns-else-not-block-ok : goal.returns-else-not-block-ok
-returns-else-not-block-ok c =
-    sym (largest_here c.args.low c.args.high _ c.loop-k-test.true (sym c.if-not-block-ok.ensures)) ∙ c.loop-k.invariant.1
+pub returns-else-not-block_ok : goal.returns-else-not-block_ok
+returns-else-not-block_ok c =
+    sym (largest_here c.args.low c.args.high _ c.loop-k-test.true (sym c.if-not-block_ok.ensures)) ∙ c.loop-k.invariant.1

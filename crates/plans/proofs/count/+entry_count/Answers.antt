@@ -7,11 +7,11 @@ use Rattle.plans.proofs.count.+entry_count.Goals as goal
 
 pub returns-then-chain-eq0 : goal.returns-then-chain-eq0
 returns-then-chain-eq0 t c =
-    let e = entries_last (graph_view c.args.graph.now) c.args.node (node_view c.node-at-here.result) c.node-at-here.ensures c.args.chain.now c.if-chain-eq0.true in
-    omega (arith, e, c.piece-count-own.ensures.is, c.piece-count-own.ensures.few)
+    let e = entries_last (graph_view c.args.graph.now) c.args.node (node_view c.node_at-here.result) c.node_at-here.ensures c.args.chain.now c.if-chain-eq0.true in
+    omega (arith, e, c.piece_count-own.ensures.is, c.piece_count-own.ensures.few)
 
-pub entry-count-rest-requires : goal.entry-count-rest-requires
-entry-count-rest-requires t c =
+pub entry_count-rest-requires : goal.entry_count-rest-requires
+entry_count-rest-requires t c =
     let some : 0 < length c.args.chain.now = omega (arith, c.if-chain-eq0.false) in
     let shorter = rest_shorter c.args.chain.now some in
     (omega (arith, c.decreases), tt)
@@ -19,12 +19,12 @@ entry-count-rest-requires t c =
 pub returns : goal.returns
 returns t c =
     let g = graph_view c.args.graph.now in
-    let v = node_view c.node-at-here.result in
+    let v = node_view c.node_at-here.result in
     let cs = c.args.chain.now in
     let first = get_or cs 0 0 in
     let some : 0 < length cs = omega (arith, c.if-chain-eq0.false) in
-    c.with-rest.ensures
-    ∙ ap₂ (λ a k. min (a + k * c.entry-count-rest.result) 65535) c.piece-count-own.ensures.is c.pieces-to.ensures.is
-    ∙ ap (λ r. min (piece_count v.rows + pieces_to first v.rows * r) 65535) c.entry-count-rest.ensures
+    c.with_rest.ensures
+    ∙ ap₂ (λ a k. min (a + k * c.entry_count-rest.result) 65535) c.piece_count-own.ensures.is c.pieces_to.ensures.is
+    ∙ ap (λ r. min (piece_count v.rows + pieces_to first v.rows * r) 65535) c.entry_count-rest.ensures
     ∙ cut_factor (piece_count v.rows) (pieces_to first v.rows) (entry_count g first (take (length cs - 1) (drop 1 cs)))
-    ∙ ap (λ x. min x 65535) (sym (entries_more g c.args.node v c.node-at-here.ensures cs some))
+    ∙ ap (λ x. min x 65535) (sym (entries_more g c.args.node v c.node_at-here.ensures cs some))

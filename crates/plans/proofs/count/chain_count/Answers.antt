@@ -9,4 +9,4 @@ returns-then-chain-eq0 c = omega (arith, chain_none (graph_view c.args.graph.now
 pub returns : goal.returns
 returns c =
     let some : 0 < length c.args.chain.now = omega (arith, c.if-chain-eq0.false) in
-    c.entry-count.ensures ∙ ap (λ x. min x 65535) (sym (chain_some (graph_view c.args.graph.now) c.args.node c.args.chain.now some))
+    c.entry_count.ensures ∙ ap (λ x. min x 65535) (sym (chain_some (graph_view c.args.graph.now) c.args.node c.args.chain.now some))

@@ -5,12 +5,12 @@ use Rattle.walks.specs.Rows.{leads_to}
 use Rattle.plans.proofs.Rowing.{some_at}
 use Rattle.plans.proofs.nodes.any_row_to.Goals as goal
 
-pub returns-then-leads-to : goal.returns-then-leads-to
-returns-then-leads-to g c =
+pub returns-then-leads_to : goal.returns-then-leads_to
+returns-then-leads_to g c =
     let F = λ (x : g.row.R.Denot). leads_to c.args.to (g.R.AnyRow.goal x) in
     let rows = c.args.rows.now in
     let k = c.loop-k.k in
-    let hit = c.if-leads-to.ensures ∙ ap (leads_to c.args.to) c.goal.ensures in
+    let hit = c.if-leads_to.ensures ∙ ap (leads_to c.args.to) c.goal.ensures in
     ap (λ b. b || some F (drop (k + 1) rows)) hit ∙ sym (some_at rows k c.index-rows-k.result c.loop-k-test.true c.index-rows-k.is F) ∙ c.loop-k.invariant
 
 pub loop-k-preserved : goal.loop-k-preserved
@@ -18,7 +18,7 @@ loop-k-preserved g c =
     let F = λ (x : g.row.R.Denot). leads_to c.args.to (g.R.AnyRow.goal x) in
     let rows = c.args.rows.now in
     let k = c.loop-k.k in
-    let miss = c.if-leads-to.ensures ∙ ap (leads_to c.args.to) c.goal.ensures in
+    let miss = c.if-leads_to.ensures ∙ ap (leads_to c.args.to) c.goal.ensures in
     ap (λ b. b || some F (drop (k + 1) rows)) miss ∙ sym (some_at rows k c.index-rows-k.result c.loop-k-test.true c.index-rows-k.is F) ∙ c.loop-k.invariant
 
 pub returns : goal.returns

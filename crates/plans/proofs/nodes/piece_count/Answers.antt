@@ -9,9 +9,9 @@ returns-in-Ternary c =
     let node = c.args.node.now in
     record {
       is =
-          c.pieces-in.ensures.is ∙ sum_ones c.named.result.now ∙ ap length c.named.ensures.is
+          c.pieces_in.ensures.is ∙ sum_ones c.named.result.now ∙ ap length c.named.ensures.is
           ∙ sym (ap (λ rs. piece_count (rows_view node.row_count rs)) c.in-Ternary.is);
-      few = c.pieces-in.ensures.few;
+      few = c.pieces_in.ensures.few;
     }
 
 pub returns-in-Range : goal.returns-in-Range
@@ -19,7 +19,7 @@ returns-in-Range c =
     let node = c.args.node.now in
     record {
       is =
-          c.pieces-in-in-Range.ensures.is ∙ sum_blocks c.named-in-Range.result.now ∙ ap block_count c.named-in-Range.ensures.is
+          c.pieces_in-in-Range.ensures.is ∙ sum_blocks c.named-in-Range.result.now ∙ ap block_count c.named-in-Range.ensures.is
           ∙ sym (ap (λ rs. piece_count (rows_view node.row_count rs)) c.in-Range.is);
-      few = c.pieces-in-in-Range.ensures.few;
+      few = c.pieces_in-in-Range.ensures.few;
     }

@@ -4,8 +4,8 @@ use Rattle.plans.specs.Checking.{sum_of}
 use Rattle.plans.proofs.Rowing.{sum_at}
 use Rattle.plans.proofs.nodes.pieces_in.Goals as goal
 
-pub overflow-add-sum : goal.overflow-add-sum
-overflow-add-sum g c = omega (arith, c.loop-k.invariant.1, c.size-sum.ensures.few, c.requires, c.loop-k-test.true)
+pub overflow_add-sum : goal.overflow_add-sum
+overflow_add-sum g c = omega (arith, c.loop-k.invariant.1, c.size-sum.ensures.few, c.requires, c.loop-k-test.true)
 
 pub loop-k-preserved : goal.loop-k-preserved
 loop-k-preserved g c =

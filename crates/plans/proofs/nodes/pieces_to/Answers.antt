@@ -10,9 +10,9 @@ returns-in-Ternary c =
     let to = c.args.to in
     record {
       is =
-          c.pieces-in-to.ensures.is ∙ sum_ternaries_to to c.named.result.now ∙ ap (ternaries_to to) c.named.ensures.is
+          c.pieces_in_to.ensures.is ∙ sum_ternaries_to to c.named.result.now ∙ ap (ternaries_to to) c.named.ensures.is
           ∙ sym (ap (λ rs. pieces_to to (rows_view node.row_count rs)) c.in-Ternary.is);
-      few = c.pieces-in-to.ensures.few;
+      few = c.pieces_in_to.ensures.few;
     }
 
 pub returns-in-Range : goal.returns-in-Range
@@ -21,7 +21,7 @@ returns-in-Range c =
     let to = c.args.to in
     record {
       is =
-          c.pieces-in-to-in-Range.ensures.is ∙ sum_blocks_to to c.named-in-Range.result.now ∙ ap (blocks_to to) c.named-in-Range.ensures.is
+          c.pieces_in_to-in-Range.ensures.is ∙ sum_blocks_to to c.named-in-Range.result.now ∙ ap (blocks_to to) c.named-in-Range.ensures.is
           ∙ sym (ap (λ rs. pieces_to to (rows_view node.row_count rs)) c.in-Range.is);
-      few = c.pieces-in-to-in-Range.ensures.few;
+      few = c.pieces_in_to-in-Range.ensures.few;
     }

@@ -15,11 +15,11 @@ loop-n-init c =
     let all : c.args.count - 0 ≡ c.args.count = omega arith in
     (ap (first_of told 0) all, λ k h. absurd (omega arith), λ k h. c.none-plan.ensures.is k, c.none-plan.ensures.whole)
 
-pub returns-then-not-chain-right : goal.returns-then-not-chain-right
-returns-then-not-chain-right c =
+pub returns-then-not-chain_right : goal.returns-then-not-chain_right
+returns-then-not-chain_right c =
     let bytes = c.args.bytes.now in
     let n = c.loop-n.n in
-    let wrong : chain_right (chain_at bytes n) ≡ false = ap chain_right (sym c.chain-at-chain.ensures) ∙ sym c.if-not-chain-right.ensures in
+    let wrong : chain_right (chain_at bytes n) ≡ false = ap chain_right (sym c.chain_at-chain.ensures) ∙ sym c.if-not-chain_right.ensures in
     record {
       fault = found (λ n. unless (chain_right (chain_at bytes n)) (Shape n)) n c.args.count c.loop-n.invariant.0 (Shape n) c.loop-n-test.true (ap (λ b. unless b (Shape n)) wrong);
       says = tt;
@@ -29,12 +29,12 @@ pub loop-n-preserved : goal.loop-n-preserved
 loop-n-preserved c =
     let bytes = c.args.bytes.now in
     let n = c.loop-n.n in
-    let right : chain_right (chain_at bytes n) ≡ true = ap chain_right (sym c.chain-at-chain.ensures) ∙ sym c.if-not-chain-right.ensures in
+    let right : chain_right (chain_at bytes n) ≡ true = ap chain_right (sym c.chain_at-chain.ensures) ∙ sym c.if-not-chain_right.ensures in
     let xs = c.loop-n.plan.chains in
     let l : n < length xs = omega (arith, c.loop-n.invariant.3, c.requires.few) in (
       passed (λ n. unless (chain_right (chain_at bytes n)) (Shape n)) n c.args.count c.loop-n.invariant.0 c.loop-n-test.true (ap (λ b. unless b (Shape n)) right),
-      chain_more bytes xs n c.chain-at-chain.result l c.chain-at-chain.ensures c.loop-n.invariant.1,
-      chain_less bytes xs n c.chain-at-chain.result l c.loop-n.invariant.2,
+      chain_more bytes xs n c.chain_at-chain.result l c.chain_at-chain.ensures c.loop-n.invariant.1,
+      chain_less bytes xs n c.chain_at-chain.result l c.loop-n.invariant.2,
       length-set _ _ _ ∙ c.loop-n.invariant.3,
     )
 

@@ -14,12 +14,12 @@ loop-n-init c =
     let all : c.args.count - 0 ≡ c.args.count = omega arith in
     ap (first_of told 0) all
 
-pub returns-then-not-keeps-rules : goal.returns-then-not-keeps-rules
-returns-then-not-keeps-rules c =
+pub returns-then-not-keeps_rules : goal.returns-then-not-keeps_rules
+returns-then-not-keeps_rules c =
     let g = graph_view c.args.graph.now in
     let chain = chain_of c.args.chains.now in
     let n = c.loop-n.n in
-    let wrong : keeps g n (chain n) ≡ false = ap (keeps g n) (sym (c.named-nodes.ensures.is ∙ c.chain-chain.ensures)) ∙ sym c.if-not-keeps-rules.ensures in
+    let wrong : keeps g n (chain n) ≡ false = ap (keeps g n) (sym (c.named_nodes.ensures.is ∙ c.chain-chain.ensures)) ∙ sym c.if-not-keeps_rules.ensures in
     found (λ n. unless (keeps g n (chain n)) (Rule n)) n c.args.count c.loop-n.invariant (Rule n) c.loop-n-test.true (ap (λ b. unless b (Rule n)) wrong)
 
 pub loop-n-preserved : goal.loop-n-preserved
@@ -27,7 +27,7 @@ loop-n-preserved c =
     let g = graph_view c.args.graph.now in
     let chain = chain_of c.args.chains.now in
     let n = c.loop-n.n in
-    let right : keeps g n (chain n) ≡ true = ap (keeps g n) (sym (c.named-nodes.ensures.is ∙ c.chain-chain.ensures)) ∙ sym c.if-not-keeps-rules.ensures in
+    let right : keeps g n (chain n) ≡ true = ap (keeps g n) (sym (c.named_nodes.ensures.is ∙ c.chain-chain.ensures)) ∙ sym c.if-not-keeps_rules.ensures in
     passed (λ n. unless (keeps g n (chain n)) (Rule n)) n c.args.count c.loop-n.invariant c.loop-n-test.true (ap (λ b. unless b (Rule n)) right)
 
 pub returns : goal.returns

@@ -8,8 +8,8 @@ loop-i-init c = put_none c.args.words.now c.args.words.now c.args.held c.args.ro
 
 pub loop-i-preserved : goal.loop-i-preserved
 loop-i-preserved c =
-    put_more c.args.words.now c.loop-i.words c.args.held c.args.row c.loop-i.i c.with-bit.result c.loop-i.invariant (omega arith)
-    (c.with-bit.ensures ∙ ap (with_bit (get_or c.loop-i.words c.loop-i.i 0) c.args.held) c.accepts-at.ensures)
+    put_more c.args.words.now c.loop-i.words c.args.held c.args.row c.loop-i.i c.with_bit.result c.loop-i.invariant (omega arith)
+    (c.with_bit.ensures ∙ ap (with_bit (get_or c.loop-i.words c.loop-i.i 0) c.args.held) c.accepts_at.ensures)
 
 pub returns : goal.returns
 returns c = put_all c.args.words.now c.loop-i.words c.args.held c.args.row c.loop-i.i c.loop-i.invariant (omega arith) c.requires.1 (omega arith) (omega arith)

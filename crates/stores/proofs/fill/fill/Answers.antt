@@ -17,17 +17,17 @@ loop-row-preserved g c =
     let rows = c.args.rows.now in
     let i = c.loop-row.row-index in
     let now-is = c.loop-row.invariant.1 in
-    let some : 0 < m.takes - i = admits_ok (put m i rows) _ (sym (ap admits now-is) ∙ sym c.append.ensures.answered ∙ c.in-ok-append.was) in
+    let some : 0 < m.takes - i = admits_ok (put m i rows) _ (sym (ap admits now-is) ∙ sym c.append.ensures.answered ∙ c.in_ok-append.was) in
     let is = c.append.ensures.after ∙ ap (λ k. appended k c.row-item.result) now-is ∙ put_more m rows i c.row-item.result c.row-item.is (omega arith) (omega arith) in
     (omega arith, is, λ h. all_in m rows (omega arith), λ h. is ∙ put_all m rows (i + 1) (omega arith) (omega arith))
 
-pub returns-in-err-append : goal.returns-in-err-append
-returns-in-err-append g c =
+pub returns-in_err-append : goal.returns-in_err-append
+returns-in_err-append g c =
     let m = g.S.Store.meaning c.args.store.now in
     let rows = c.args.rows.now in
     let i = c.loop-row.row-index in
     let now-is = c.loop-row.invariant.1 in
-    let full = admits_err (put m i rows) _ (sym (ap admits now-is) ∙ sym c.append.ensures.answered ∙ c.in-err-append.was) in
+    let full = admits_err (put m i rows) _ (sym (ap admits now-is) ∙ sym c.append.ensures.answered ∙ c.in_err-append.was) in
     let p = err_from_is_err_and c.from-residual.result c.from-residual.ensures.1 in
     record {
       answered = p.1 ∙ ap Err (p.2 ∙ full.1) ∙ not_all m rows (omega arith);

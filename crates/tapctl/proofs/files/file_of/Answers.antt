@@ -7,12 +7,12 @@ use Rattle.graph_writer.specs.Writing.{write_fault}
 use Rattle.tapctl.proofs.Filing.{file_kept}
 use Rattle.tapctl.proofs.files.file_of.Goals as goal
 
-pub returns-in-err-size : goal.returns-in-err-size
-returns-in-err-size c = IfOk-from_err _ _ c.from-residual-in-err-size.ensures.0
+pub returns-in_err-size : goal.returns-in_err-size
+returns-in_err-size c = IfOk-from_err _ _ c.from-residual-in_err-size.ensures.0
 
 pub returns : goal.returns
 returns c =
     c.truncate.ensures.items
-    ∙ file_kept (write_fault (minimum_in standard_table) c.args.graph.now (length c.as-mut-slice.result.now)) (encode (graph_view c.args.graph.now))
-    c.write-graph.new.area c.as-mut-slice.result.now c.in-ok-bytes.bytes.items c.in-ok-size.size c.in-ok-bytes.bytes.len
-    c.in-ok-size.ensures.is c.in-ok-size.ensures.area (search rules)
+    ∙ file_kept (write_fault (minimum_in standard_table) c.args.graph.now (length c.as_mut_slice.result.now)) (encode (graph_view c.args.graph.now))
+    c.write_graph.new.area c.as_mut_slice.result.now c.in_ok-bytes.bytes.items c.in_ok-size.size c.in_ok-bytes.bytes.len
+    c.in_ok-size.ensures.is c.in_ok-size.ensures.area (search rules)

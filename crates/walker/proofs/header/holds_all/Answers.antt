@@ -7,7 +7,7 @@ use Rattle.walker.proofs.header.holds_all.Goals as goal
 pub returns-then-holds : goal.returns-then-holds
 returns-then-holds c =
     let rest = held c.args.packet.now c.args.at (length_places c.args.length) in
-    c.holds-length.ensures
+    c.holds_length.ensures
     ∙ ap (λ b. b && rest) (sym c.if-holds.true ∙ c.holds.ensures)
     ∙ sym (held_append c.args.packet.now c.args.at c.args.places.now (length_places c.args.length))
 

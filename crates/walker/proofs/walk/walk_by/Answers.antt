@@ -5,20 +5,20 @@ use Rattle.graphs.specs.View.{graph_view}
 use Rattle.walker.proofs.Refused.{told_least, none_applies, graph_sound, packet_fits, marks_suffice}
 use Rattle.walker.proofs.walk.walk_by.Goals as goal
 
-pub returns-in-err-first-fault : goal.returns-in-err-first-fault
-returns-in-err-first-fault c =
+pub returns-in_err-first_fault : goal.returns-in_err-first_fault
+returns-in_err-first_fault c =
     let p = err_from_is_err_and c.from-residual.result c.from-residual.ensures.1 in
     record {
       answers =
           rw p.1
           (told_least (minimum_in c.args.table.now) (graph_view c.args.graph.now) (length c.args.packet.now) (length c.args.marks.now) p.0
-          _ p.2 c.in-err-first-fault.ensures);
+          _ p.2 c.in_err-first_fault.ensures);
       kept = rw p.1 refl;
     }
 
-pub walk-on-requires : goal.walk-on-requires
-walk-on-requires c =
-    let clear = c.in-ok-first-fault.ensures in
+pub walk_on-requires : goal.walk_on-requires
+walk_on-requires c =
+    let clear = c.in_ok-first_fault.ensures in
     let minimum = minimum_in c.args.table.now in
     let g = graph_view c.args.graph.now in
     let size = length c.args.packet.now in
@@ -29,8 +29,8 @@ pub returns : goal.returns
 returns c =
     record {
       answers = (
-        none_applies (minimum_in c.args.table.now) (graph_view c.args.graph.now) (length c.args.packet.now) (length c.args.marks.now) c.in-ok-first-fault.ensures,
-        c.walk-on.ensures,
+        none_applies (minimum_in c.args.table.now) (graph_view c.args.graph.now) (length c.args.packet.now) (length c.args.marks.now) c.in_ok-first_fault.ensures,
+        c.walk_on.ensures,
       );
       kept = tt;
     }

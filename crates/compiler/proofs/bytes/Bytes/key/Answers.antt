@@ -7,4 +7,4 @@ use Rattle.compiler.proofs.bytes.Bytes.key.Goals as goal
 pub returns : goal.returns
 returns c =
     let e = ap spelled (eight 0 (bytes_of c.args.self.now)) in
-    omega (arith, e, c.from-be-bytes.ensures, c.at.ensures, c.at-2.ensures, c.at-3.ensures, c.at-4.ensures, c.at-5.ensures, c.at-6.ensures, c.at-7.ensures, c.at-8.ensures)
+    omega (arith, e, c.from_be_bytes.ensures, c.at.ensures, c.at-2.ensures, c.at-3.ensures, c.at-4.ensures, c.at-5.ensures, c.at-6.ensures, c.at-7.ensures, c.at-8.ensures)

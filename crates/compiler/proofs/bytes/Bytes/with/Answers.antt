@@ -14,7 +14,7 @@ pub loop-i-preserved : goal.loop-i-preserved
 loop-i-preserved c =
     let n = c.args.number in
     let i = c.loop-i.i in
-    (more c.loop-i.list _ (four n) c.args.self.now.count i _ (omega (arith, c.loop-i.invariant.1)) (omega arith) (ap (λ xs. get_or xs i 0) c.four-bytes-bytes.ensures) c.loop-i.invariant.0, length-set _ _ _ ∙ c.loop-i.invariant.1)
+    (more c.loop-i.list _ (four n) c.args.self.now.count i _ (omega (arith, c.loop-i.invariant.1)) (omega arith) (ap (λ xs. get_or xs i 0) c.four_bytes-bytes.ensures) c.loop-i.invariant.0, length-set _ _ _ ∙ c.loop-i.invariant.1)
 
 pub loop-i-init : goal.loop-i-init
 loop-i-init c = (ap (λ n. take n c.args.self.now.list) (add-zero c.args.self.now.count) ∙ sym (append-nil _), search rules)

@@ -28,4 +28,4 @@ returns c =
     let k = c.loop-self.self in
     let h = sym c.loop-self.invariant
     ∙ taken rows k.target k.count k.blocks k.next k.row (record { value = 0; mask = 0 }) c.loop-self-test.false (omega (arith, k.whole, k.within)) in
-    record { first = ap Some c.block-piece.ensures ∙ sym (ap head_of h); rest = sym (ap tail_of h) }
+    record { first = ap Some c.block_piece.ensures ∙ sym (ap head_of h); rest = sym (ap tail_of h) }

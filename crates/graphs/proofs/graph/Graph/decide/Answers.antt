@@ -9,12 +9,12 @@ use Rattle.graphs.proofs.graph.Graph.decide.Goals as goal
 pub returns-in-Some : goal.returns-in-Some
 returns-in-Some c =
     let found = c.in-Some.ensures.lookup in
-    let shown = node_at_lem c.named-nodes.result.now (ap (map node_view) c.named-nodes.ensures.is) c.args.node c.in-Some.node.now (ltb-true _ _ (sym found.0)) in
+    let shown = node_at_lem c.named_nodes.result.now (ap (map node_view) c.named_nodes.ensures.is) c.args.node c.in-Some.node.now (ltb-true _ _ (sym found.0)) in
     c.decide.ensures ∙ ap (λ n. decide (node_view n).rows c.args.key) found.1 ∙ sym (ap (λ v. decide v.rows c.args.key) shown)
 
 pub returns-in-None : goal.returns-in-None
 returns-in-None c =
-    let past : length c.named-nodes.result.now ≤ c.args.node = ltb-false _ _ (sym c.in-None.ensures.lookup.0) in
+    let past : length c.named_nodes.result.now ≤ c.args.node = ltb-false _ _ (sym c.in-None.ensures.lookup.0) in
     let many : length (graph_view c.args.self.now) ≤ c.args.node =
-    omega (arith, ap (λ ns. length (map node_view ns)) c.named-nodes.ensures.is, length-map c.named-nodes.result.now node_view, past) in
+    omega (arith, ap (λ ns. length (map node_view ns)) c.named_nodes.ensures.is, length-map c.named_nodes.result.now node_view, past) in
     sym (ap (λ v. decide v.rows c.args.key) (get_or_past (graph_view c.args.self.now) c.args.node _ many))
