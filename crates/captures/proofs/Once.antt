@@ -39,7 +39,7 @@ module _ (m : Format) (f : List ℕ) where
   entry_is : (o : ℕ) (e : Entry) → IsRecord m f o e → e ≡ entry_of m f o
   entry_is o e h =
       let n : e.next ≡ (entry_of m f o).next = omega arith in
-      same_entry e (entry_of m f o) h.seconds h.fraction h.original h.begins h.length-is n
+      same_entry e (entry_of m f o) h.seconds h.fraction h.original h.begins h.length_is n
 
   capture_head : {o : ℕ} {es : List Entry} {end : Option CaptureFault} → Capture m f o es end → record_at m f o ≡ head_of es end
   capture_head {o} (whole h) = rw (eq-eqb _ _ h)

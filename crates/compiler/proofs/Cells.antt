@@ -1,7 +1,7 @@
 -- The cells of a piece, and the bytes that stand for them.
 use Rattle.std.proofs.Common.{◌≡◌, ℕ, zero, suc, ◌*◌, ◌/◌, ◌%◌, ◌≤◌, List, [], ◌∷◌, ◌++◌, map, take, drop, sym, refl, ap, ◌∙◌, ap₂, arith}
 use Rattle.std.specs.List.{flat_map}
-use Rattle.std.proofs.lemmas.List.{map_append}
+use Rattle.std.proofs.lemmas.List.{map-append}
 use Rattle.patterns.specs.declared.block.Block.{Block}
 use Rattle.patterns.specs.declared.row.Target.{Target}
 use Rattle.patterns.specs.declared.row.TernaryRow.{TernaryRow}
@@ -93,7 +93,7 @@ range_pieces_lem : (w : ℕ) (rs : List RangeRow) → flat_map (range_pieces w) 
 range_pieces_lem w [] = refl
 range_pieces_lem w (r ∷ rs) =
     ap₂ (λ xs ys. xs ++ ys) (block_pieces w r.target (split_of r.low r.high)) (range_pieces_lem w rs)
-    ∙ sym (map_append (piece_at w) (range_as r) (flat_map range_as rs))
+    ∙ sym (map-append (piece_at w) (range_as r) (flat_map range_as rs))
 
 pub pieces_left : (w : ℕ) (rows : RowsView) (k : Cursor) → k.row ≡ 0 → k.count ≡ 0 → pieces w rows ≡ map (piece_at w) (left rows k)
 pieces_left w (ternary_rows rs) k r n = ternary_pieces w rs ∙ ap (λ i. map (piece_at w) (map ternary_as (drop i rs))) (sym r)

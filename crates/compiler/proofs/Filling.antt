@@ -1,7 +1,7 @@
 -- All rows, state by state.
 use Rattle.std.proofs.Common.{◌≡◌, ℕ, suc, ◌+◌, ◌-◌, ◌<◌, ◌≤◌, List, [], ◌∷◌, ◌++◌, map, length, take, sym, refl, ap, ◌∙◌, ap₂, mod-eq_of_lt, zero-add, arith}
 use Rattle.std.specs.List.{range_with_len, flat_map}
-use Rattle.std.proofs.lemmas.List.{map_append}
+use Rattle.std.proofs.lemmas.List.{map-append}
 use Rattle.graphs.specs.View.{NodeView}
 use Rattle.stores.specs.Fits.{fits}
 use Rattle.walks.specs.Rows.{Cell, Entry, StoreRow, store_row, action, entries, chain_entries}
@@ -33,7 +33,7 @@ module _ (f : ℕ → List StoreRow) (n c : ℕ) where
   pub rows_more : n < c → map line_of (flat_map f (range_with_len n (c - n))) ≡ map line_of (f n) ++ map line_of (flat_map f (range_with_len (n + 1) (c - (n + 1))))
   rows_more h =
       let e : c - n ≡ suc (c - (n + 1)) = omega arith in
-      ap (λ k. map line_of (flat_map f (range_with_len n k))) e ∙ map_append line_of (f n) (flat_map f (range_with_len (n + 1) (c - (n + 1))))
+      ap (λ k. map line_of (flat_map f (range_with_len n k))) e ∙ map-append line_of (f n) (flat_map f (range_with_len (n + 1) (c - (n + 1))))
 
   pub rows_done : c ≤ n → map line_of (flat_map f (range_with_len n (c - n))) ≡ []
   rows_done h = let e : c - n ≡ 0 = omega arith in ap (λ k. map line_of (flat_map f (range_with_len n k))) e

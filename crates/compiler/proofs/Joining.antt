@@ -2,7 +2,7 @@
 use Rattle.std.proofs.Common.{◌≡◌, ℕ, suc, ◌+◌, ◌-◌, ◌<◌, ◌≤◌, true, false, cond, List, [], ◌∷◌, ◌++◌, map, length, get_or, take, drop, Some, None, Option, sym, refl, ap, ◌∙◌, subst, ap₂, arith}
 use Rattle.std.specs.List.{flat_map}
 use Rattle.std.proofs.lemmas.Bool.{both_ways}
-use Rattle.std.proofs.lemmas.List.{append_assoc, map_append}
+use Rattle.std.proofs.lemmas.List.{append_assoc, map-append}
 use Rattle.patterns.specs.declared.row.Target.{Target}
 use Rattle.graphs.specs.View.{NodeView, node_at}
 use Rattle.graph_reader.specs.Encoding.{four}
@@ -73,7 +73,7 @@ module _ (g : List NodeView) (p r : Start) (w : ℕ) (q : Piece) where
 
   first : (cs : List ℕ) (qs : List Piece) → rows_from g cs p w (q ∷ qs) ≡ map (line_as p) (stands g cs (piece_at w q)) ++ rows_from g cs p w qs
   unfolding rows_from
-  first cs qs = map_append (line_as p) (stands g cs (piece_at w q)) _
+  first cs qs = map-append (line_as p) (stands g cs (piece_at w q)) _
 
   -- a piece that stands alone
   module _ (h : Longer p r w q 0) where
@@ -89,7 +89,7 @@ module _ (g : List NodeView) (p r : Start) (w : ℕ) (q : Piece) where
   -- a piece that leads to the chain's next node
   module _ (h : Longer p r w q 1) where
     joined_values : (f : Cell → ℕ) (b : List ℕ) (bs : List ℕ) (e : List Cell) → b ++ map f cells ≡ bs → b ++ map f (cells ++ e) ≡ bs ++ map f e
-    joined_values f b bs e is = ap (λ xs. b ++ xs) (map_append f cells e) ∙ sym (append_assoc b (map f cells) (map f e)) ∙ ap (λ xs. xs ++ map f e) is
+    joined_values f b bs e is = ap (λ xs. b ++ xs) (map-append f cells e) ∙ sym (append_assoc b (map f cells) (map f e)) ∙ ap (λ xs. xs ++ map f e) is
 
     joined_line : (e : Entry) → line_as p (join (piece_at w q) e) ≡ line_as r e
     joined_line e =
@@ -109,7 +109,7 @@ module _ (g : List NodeView) (p r : Start) (w : ℕ) (q : Piece) where
     joined_is [] e = absurd (both_ways false refl e)
     joined_is (c ∷ cs) e =
         ap (λ b. map (line_as p) (cond b (map (join (piece_at w q)) (entries g c cs) ++ (closing (piece_at w q) ∷ [])) (alone (piece_at w q) ∷ []))) e
-        ∙ map_append (line_as p) (map (join (piece_at w q)) (entries g c cs)) (closing (piece_at w q) ∷ [])
+        ∙ map-append (line_as p) (map (join (piece_at w q)) (entries g c cs)) (closing (piece_at w q) ∷ [])
         ∙ ap₂ (λ xs x. xs ++ (x ∷ [])) (joined_lines (entries g c cs)) (whole 1 None h)
 
     pub piece_joined : (cs : List ℕ) (qs : List Piece) → leads_on cs q.target ≡ true

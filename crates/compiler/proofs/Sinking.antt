@@ -1,6 +1,6 @@
 -- Rows put one after the other.
 use Rattle.std.proofs.Common.{◌≡◌, ℕ, ◌+◌, ◌-◌, ◌<◌, ◌≤◌, Bool, List, [], ◌∷◌, ◌++◌, map, length, sym, refl, ap, ◌∙◌, subst, ap₂, arith}
-use Rattle.std.proofs.lemmas.List.{append-nil, append_assoc, map_append, length-append, length-map, length-take-le}
+use Rattle.std.proofs.lemmas.List.{append-nil, append_assoc, map-append, length-append, length-map, length-take-le}
 use Rattle.stores.specs.declared.question.Question.{Question}
 use Rattle.stores.specs.Meaning.{Meaning, holding}
 use Rattle.walks.specs.declared.action.Action.{Action}
@@ -30,9 +30,9 @@ pub sunk_append : (s : Sink) (xs ys : List Line) → sunk s (xs ++ ys) ≡ sunk 
 sunk_append s xs ys =
     let t : s.meaning.takes - length (xs ++ ys) ≡ s.meaning.takes - length xs - length ys = omega (arith, length-append xs ys) in
     ap₂ (λ rows takes. after s.meaning rows takes (s.actions ++ actions_in (xs ++ ys)))
-    (ap (λ zs. s.meaning.rows ++ zs) (map_append (λ (r : Line). r.fits) xs ys) ∙ sym (append_assoc s.meaning.rows (fits_in xs) (fits_in ys))) t
+    (ap (λ zs. s.meaning.rows ++ zs) (map-append (λ (r : Line). r.fits) xs ys) ∙ sym (append_assoc s.meaning.rows (fits_in xs) (fits_in ys))) t
     ∙ ap (sink (holding s.meaning ((s.meaning.rows ++ fits_in xs) ++ fits_in ys) (s.meaning.takes - length xs - length ys)))
-    (ap (λ zs. s.actions ++ zs) (map_append (λ (r : Line). r.action) xs ys) ∙ sym (append_assoc s.actions (actions_in xs) (actions_in ys)))
+    (ap (λ zs. s.actions ++ zs) (map-append (λ (r : Line). r.action) xs ys) ∙ sym (append_assoc s.actions (actions_in xs) (actions_in ys)))
 
 -- what is still to come has room, and gives the whole
 pub record Going (s : Sink) (rest : List Line) (whole : Sink) : Type 0 where

@@ -61,7 +61,7 @@ trait NodeCheck {
 
 // The lowest node of which the check tells a fault.
 fn check_each<C: NodeCheck>(check: &C, graph: &Graph) -> Result<(), GraphFault>
-    ensures { fault_of result ≡ first_node (told check.now) (graph_view graph.now) }
+    ensures { fault_of result ≡ first_node (C.told check.now) (graph_view graph.now) }
 {
     let nodes = graph.named_nodes();
     for n in 0..nodes.len() {

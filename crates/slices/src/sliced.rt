@@ -40,9 +40,9 @@ impl Store for Sliced {
 
     ghost bounded = { λ s.
         record {
-          rows_fit = omega (arith, rows-length s.words s.held);
-          capacity-fits = omega arith;
-          takes-fit = omega arith;
+          rows_fit = omega (arith, rows_length s.words s.held);
+          capacity_fits = omega arith;
+          takes_fit = omega arith;
         } };
 
     fn wipe(&mut self) {

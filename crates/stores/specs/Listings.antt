@@ -1,7 +1,7 @@
 -- What a listing's calls make of its meaning.
 use Rattle.std.specs.Prelude.{◌≡◌, ℕ, ◌+◌, ◌<◌, ◌≤◌, true, false, List, [], ◌∷◌, ◌++◌, map, length, get_or, take, drop, Some, None, slice_index_or, slice_set}
 use Rattle.std.proofs.Common.{sym, ap, ◌∙◌, arith}
-use Rattle.std.proofs.lemmas.List.{take_more_set, map_push, map_more, map_append, length-map, length-take-le, take-take, get_or-take, take-append-drop, drop_more}
+use Rattle.std.proofs.lemmas.List.{take_more_set, map_push, map_more, map-append, length-map, length-take-le, take-take, get_or-take, take-append-drop, drop_more}
 use Rattle.stores.specs.declared.question.Question.{Question}
 use Rattle.stores.specs.Meaning.{answer}
 use Rattle.stores.specs.Answering.{none_push, hit}
@@ -27,6 +27,6 @@ found rows q i held d h k none fit =
     let split : take held rows ≡ take i rows ++ (slice_index_or rows i d ∷ drop (i + 1) (take held rows)) =
     sym (take-append-drop i (take held rows)) ∙ ap (λ xs. xs ++ drop i (take held rows)) front ∙ ap (λ xs. take i rows ++ xs) (drop_more (take held rows) i d l ∙ ap (λ x. x ∷ drop (i + 1) (take held rows)) here) in
     ap (λ xs. answer (map fits xs) q) split
-    ∙ ap (λ fs. answer fs q) (map_append fits (take i rows) (slice_index_or rows i d ∷ drop (i + 1) (take held rows)))
+    ∙ ap (λ fs. answer fs q) (map-append fits (take i rows) (slice_index_or rows i d ∷ drop (i + 1) (take held rows)))
     ∙ hit q (map fits (take i rows)) (map fits (drop (i + 1) (take held rows))) (fits (slice_index_or rows i d)) none fit
     ∙ ap Some (length_listed rows i (omega arith))

@@ -76,9 +76,9 @@ impl Store for Listing {
 
     ghost bounded = { λ s.
         record {
-          rows_fit = omega (arith, length-listed s.rows s.held (omega arith));
-          capacity-fits = omega arith;
-          takes-fit = omega arith;
+          rows_fit = omega (arith, length_listed s.rows s.held (omega arith));
+          capacity_fits = omega arith;
+          takes_fit = omega arith;
         } };
 
     fn wipe(&mut self) {

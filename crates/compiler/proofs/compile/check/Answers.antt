@@ -23,7 +23,7 @@ returns-in_err-graph c =
     let minimum = minimum_in c.args.table.now in
     let f = c.args.file.now in
     let p = c.args.plan.now in
-    let e = err_from_is_err_and c.from-residual.result c.from-residual.ensures.1 in
+    let e = err_from_is_err_and c.from_residual.result c.from_residual.ensures.1 in
     let told : Result Checked LoadFault → Type 0 = Answers of_load (LoadApplies minimum f p c.args.capacity) (λ x. Loadable minimum f p c.args.capacity x.graph x.chains) in
     subst told (sym (e.1 ∙ ap Err e.2)) (read_least minimum f p c.args.capacity c.in_err-graph.field-0.0 c.in_err-graph.ensures.answers)
 
@@ -34,7 +34,7 @@ returns-in_err-chains c =
     let p = c.args.plan.now in
     let read = c.in_ok-graph.ensures in
     let nodes = read_is minimum f (graph_view c.in_ok-graph.graph) read.is in
-    let e = err_from_is_err_and c.from-residual-in_err-chains.result c.from-residual-in_err-chains.ensures.1 in
+    let e = err_from_is_err_and c.from_residual-in_err-chains.result c.from_residual-in_err-chains.ensures.1 in
     let told : Result Checked LoadFault → Type 0 = Answers of_load (LoadApplies minimum f p c.args.capacity) (λ x. Loadable minimum f p c.args.capacity x.graph x.chains) in
     subst told (sym (e.1 ∙ ap Err e.2))
     (plan_least minimum f p c.args.capacity read.answers.0 c.in_err-chains.field-0.0
@@ -48,7 +48,7 @@ returns-in_err-check_room c =
     let read = c.in_ok-graph.ensures in
     let nodes = read_is minimum f (graph_view c.in_ok-graph.graph) read.is in
     let plan = c.in_ok-chains.ensures.answers in
-    let e = err_from_is_err_and c.from-residual-in_err-check_room.result c.from-residual-in_err-check_room.ensures.1 in
+    let e = err_from_is_err_and c.from_residual-in_err-check_room.result c.from_residual-in_err-check_room.ensures.1 in
     let told : Result Checked LoadFault → Type 0 = Answers of_load (LoadApplies minimum f p c.args.capacity) (λ x. Loadable minimum f p c.args.capacity x.graph x.chains) in
     subst told (sym (e.1 ∙ ap Err e.2))
     (room_least minimum f p c.args.capacity read.answers.0 (subst (λ g. (d : PlanFault) → PlanApplies g p d → ⊥) nodes plan.0) c.row_count.result

@@ -11,7 +11,7 @@ check_record-requires c = holds (pair_right c.args.file.now) Pair _ _ c.requires
 
 pub returns-in_err-check_record : goal.returns-in_err-check_record
 returns-in_err-check_record c =
-    let p = err_from_is_err_and c.from-residual.result c.from-residual.ensures.1 in
+    let p = err_from_is_err_and c.from_residual.result c.from_residual.ensures.1 in
     ap fault_of (p.1 ∙ ap Err p.2) ∙ found (record_fault c.args.file.now) _ _ c.loop-n.invariant _ c.loop-n-test.true (sym c.in_err-check_record.ensures)
 
 pub loop-n-preserved : goal.loop-n-preserved

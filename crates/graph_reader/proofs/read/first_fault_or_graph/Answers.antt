@@ -8,7 +8,7 @@ use Rattle.graph_reader.proofs.read.first_fault_or_graph.Goals as goal
 
 pub returns-in_err-check_graph : goal.returns-in_err-check_graph
 returns-in_err-check_graph c =
-    let p = err_from_is_err_and c.from-residual-in_err-check_graph.result c.from-residual-in_err-check_graph.ensures.1 in
+    let p = err_from_is_err_and c.from_residual-in_err-check_graph.result c.from_residual-in_err-check_graph.ensures.1 in
     record {
       is =
           ap seen (p.1 ∙ ap Err p.2)

@@ -11,7 +11,7 @@ pub returns-in_err-graph : goal.returns-in_err-graph
 returns-in_err-graph c =
     let file = c.args.file.now in
     let area = c.args.area.now in
-    let p = err_from_is_err_and c.from-residual.result c.from-residual.ensures.1 in
+    let p = err_from_is_err_and c.from_residual.result c.from_residual.ensures.1 in
     let told = copy_refused (minimum_in standard_table) file (length area) c.in_err-graph.field-0.0 c.in_err-graph.ensures.is in
     record {
       is = p.1 ∙ ap Err p.2 ∙ ap (λ o. unless_fault o (length file)) told;

@@ -7,7 +7,7 @@ use Rattle.graph_writer.proofs.write.check_records.Goals as goal
 
 pub returns-in_err-check_node : goal.returns-in_err-check_node
 returns-in_err-check_node c =
-    let p = err_from_is_err_and c.from-residual.result c.from-residual.ensures.1 in
+    let p = err_from_is_err_and c.from_residual.result c.from_residual.ensures.1 in
     record {
       is =
           ap fault_of (p.1 ∙ ap Err p.2)

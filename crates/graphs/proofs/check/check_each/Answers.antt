@@ -7,7 +7,7 @@ use Rattle.graphs.proofs.check.check_each.Goals as goal
 
 pub returns-in_err-check : goal.returns-in_err-check
 returns-in_err-check g c =
-    let p = err_from_is_err_and c.from-residual.result c.from-residual.ensures.1 in
+    let p = err_from_is_err_and c.from_residual.result c.from_residual.ensures.1 in
     ap fault_of (p.1 ∙ ap Err p.2)
     ∙ node_found (g.C.NodeCheck.told c.args.check.now) c.named_nodes-nodes.result.now c.loop-n.n (ap (map node_view) c.named_nodes-nodes.ensures.is) c.loop-n.invariant _ _ c.loop-n-test.true (sym c.in_err-check.ensures)
 

@@ -28,7 +28,7 @@ returns-in_err-append g c =
     let i = c.loop-row.row-index in
     let now-is = c.loop-row.invariant.1 in
     let full = admits_err (put m i rows) _ (sym (ap admits now-is) ∙ sym c.append.ensures.answered ∙ c.in_err-append.was) in
-    let p = err_from_is_err_and c.from-residual.result c.from-residual.ensures.1 in
+    let p = err_from_is_err_and c.from_residual.result c.from_residual.ensures.1 in
     record {
       answered = p.1 ∙ ap Err (p.2 ∙ full.1) ∙ not_all m rows (omega arith);
       after = c.append.ensures.after ∙ ap (λ k. appended k c.row-item.result) now-is ∙ refused_same (put m i rows) c.row-item.result full.0 ∙ put_full m rows i (omega arith) (omega arith);

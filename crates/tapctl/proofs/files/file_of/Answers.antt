@@ -8,7 +8,7 @@ use Rattle.tapctl.proofs.Filing.{file_kept}
 use Rattle.tapctl.proofs.files.file_of.Goals as goal
 
 pub returns-in_err-size : goal.returns-in_err-size
-returns-in_err-size c = IfOk-from_err _ _ c.from-residual-in_err-size.ensures.0
+returns-in_err-size c = IfOk-from_err _ _ c.from_residual-in_err-size.ensures.0
 
 pub returns : goal.returns
 returns c =

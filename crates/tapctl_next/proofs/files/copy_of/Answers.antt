@@ -6,7 +6,7 @@ use Rattle.tapctl_next.proofs.Filing.{file_kept}
 use Rattle.tapctl_next.proofs.files.copy_of.Goals as goal
 
 pub returns-in_err-size : goal.returns-in_err-size
-returns-in_err-size c = IfOk-from_err _ _ c.from-residual-in_err-size.ensures.0
+returns-in_err-size c = IfOk-from_err _ _ c.from_residual-in_err-size.ensures.0
 
 pub returns : goal.returns
 returns c =

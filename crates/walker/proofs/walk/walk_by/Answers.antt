@@ -7,7 +7,7 @@ use Rattle.walker.proofs.walk.walk_by.Goals as goal
 
 pub returns-in_err-first_fault : goal.returns-in_err-first_fault
 returns-in_err-first_fault c =
-    let p = err_from_is_err_and c.from-residual.result c.from-residual.ensures.1 in
+    let p = err_from_is_err_and c.from_residual.result c.from_residual.ensures.1 in
     record {
       answers =
           rw p.1
