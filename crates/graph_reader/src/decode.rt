@@ -85,7 +85,7 @@ impl RowIn for RangeRow {
 // The first n rows of a record; what stands behind them is the first row again.
 fn first_rows<R: RowIn>(bytes: &[u8], n: u8) -> [R; 16]
     requires { (1 ≤ n) × ((n ≤ 16) × (length bytes.now ≡ 16 + 10 * n)) }
-    ensures { take n result ≡ each_row (said bytes.now) n }
+    ensures { take n result ≡ each_row (R.said bytes.now) n }
 {
     let mut rows = [R::row_in(bytes, 16); 16];
     for k in 0..n {
