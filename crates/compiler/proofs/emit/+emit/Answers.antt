@@ -79,8 +79,8 @@ close-requires g t c =
     going_room (g.S.Store.meaning c.emit.new.store) c.emit.new.actions _ _ _
     (going_on s u (map (line_as r) (entries gr (get_or cs 0 0) (take (length cs - 1) (drop 1 cs)))) _ _ c.emit.ensures.after going)
 
-pub loop-piece-preserved-in-Continue·-branch-2 : goal.loop-piece-preserved-in-Continue·-branch-2
-loop-piece-preserved-in-Continue·-branch-2 g t c =
+pub loop-piece-preserved-in-Continue-branch-2 : goal.loop-piece-preserved-in-Continue-branch-2
+loop-piece-preserved-in-Continue-branch-2 g t c =
     let gr = graph_view c.args.graph.now in
     let cs = c.args.chain.now in
     let p = c.args.start.now in
