@@ -21,34 +21,19 @@ use crate::command::Command;
 use crate::commands::carry_out;
 use crate::failure::Failure;
 use crate::script::run_script;
-use std::alloc::AllocError;
+use std::process::ExitCode;
 use std::{env, io};
 
-/// The end of a call that failed, once its message is printed: status 1.
-#[derive(Clone, Copy)]
-struct Failed;
-
-impl From<io::Error> for Failed {
-    fn from(_error: io::Error) -> Failed {
-        Failed
-    }
-}
-
-impl From<AllocError> for Failed {
-    fn from(_error: AllocError) -> Failed {
-        Failed
-    }
-}
-
-fn main(rt: HostRuntime) -> Result<(), Failed> {
+/// Status 1 where the call fails, once its message is printed.
+fn main(rt: HostRuntime) -> Result<ExitCode, io::Error> {
     let mut args = env::args(&rt)?;
     let _program = args.next();
     let args: Vec<String> = args.collect(rt.alloc())?;
     match run(&rt, args.as_slice()) {
-        Ok(()) => Ok(()),
+        Ok(()) => Ok(ExitCode::SUCCESS),
         Err(failure) => {
             println!(rt; "{failure}")?;
-            Err(Failed)
+            Ok(ExitCode::FAILURE)
         }
     }
 }
