@@ -3,7 +3,6 @@ use Rattle.std.proofs.Common.{◌≡◌, ℕ, suc, ◌+◌, ◌-◌, ◌<◌, �
 use Rattle.std.specs.List.{range_with_len, flat_map}
 use Rattle.std.proofs.lemmas.List.{map-append}
 use Rattle.graphs.specs.View.{NodeView}
-use Rattle.stores.specs.Fits.{fits}
 use Rattle.walks.specs.Rows.{Cell, Entry, StoreRow, store_row, action, entries, chain_entries}
 use Rattle.compiler.specs.declared.start.Start.{Start}
 use Rattle.compiler.specs.Sinks.{Line, line_of, fits_by, line_as}

@@ -1,5 +1,5 @@
 -- What a right shape and a right pair say.
-use Rattle.std.proofs.Common.{◌≡◌, ℕ, ◌+◌, ◌-◌, ◌*◌, ◌≤◌, true, ◌||◌, eqb, ltb, List, length, arith, length-drop, length-take}
+use Rattle.std.proofs.Common.{◌≡◌, ℕ, ◌+◌, ◌*◌, ◌≤◌, true, ◌||◌, eqb, ltb, List, length, arith, length-drop, length-take}
 use Rattle.std.proofs.lemmas.Bool.{and_parts, leb-true, eqb-true}
 use Rattle.graph_reader.specs.Records.{at}
 use Rattle.graph_reader.specs.Files.{shape_right, offset, size, begins, pair_right, record_at}

@@ -1,5 +1,5 @@
 -- The sample graph with its plan, at a store of 13 rows and at one of 12.
-use Rattle.std.specs.Prelude.{◌≡◌, ℕ, List, [], ◌∷◌, ◌++◌, replicate}
+use Rattle.std.specs.Prelude.{◌≡◌, ℕ, List, ◌∷◌, replicate}
 use Rattle.refusals.specs.declared.refusal.Layer.TheVariants as layer
 use Rattle.refusals.specs.declared.refusal.Refusal.{Refusal}
 use Rattle.refusals.specs.Least.{Least}

@@ -1,32 +1,28 @@
 -- A graph that reading accepts is sound: each fact is what some test of the file's bytes or of the graph says.
-use Rattle.std.proofs.Common.{◌≡◌, ℕ, zero, suc, ◌+◌, ◌*◌, ◌^◌, ◌<◌, ◌≤◌, Bool, true, false, cond, ◌&&◌, eqb, ltb, leb, List, [], ◌∷◌, map, length, get_or, take, Some, None, Ok, Option, sym, refl, ap, ◌∙◌, subst, ap₂, arith}
+use Rattle.std.proofs.Common.{◌≡◌, ℕ, zero, suc, ◌+◌, ◌*◌, ◌^◌, ◌<◌, ◌≤◌, Bool, true, false, cond, eqb, ltb, leb, List, [], ◌∷◌, map, length, Some, None, Ok, Option, sym, refl, ap, ◌∙◌, subst, ap₂, arith}
 use lib.Bits.{bit_and, and_zero_l}
 use Rattle.std.specs.List.{range_with_len, AllByRecursion as All}
 use Rattle.std.proofs.lemmas.List.FromFn.{length-map-range_with_len, get_or-map-range_with_len}
 use Rattle.std.proofs.lemmas.List.{length-take-le}
-use Rattle.std.proofs.lemmas.Bool.{and_parts, and_from, leb-true, ltb-true, lt-ltb, le-ltb, eqb-true, eq-eqb, cond-true, cond-false, cond_both, both_ways, cases_Bool}
+use Rattle.std.proofs.lemmas.Bool.{and_parts, and_from, leb-true, ltb-true, lt-ltb, le-ltb, eqb-true, eq-eqb, cond-true, cond-false, cond_both}
 use Rattle.std.proofs.lemmas.Bool.Decides.{nat_tests}
-use Rattle.refusals.specs.Searching.{or_else, wrapped, unless, unless_fault}
+use Rattle.refusals.specs.Searching.{or_else, wrapped, unless_fault}
 use Rattle.refusals.proofs.Searching.{or_else_none, wrapped_none, unless_none, nowhere, holds}
 use Rattle.headers.specs.declared.kinds.Kind.{Kind}
 use Rattle.patterns.specs.declared.row.Target.{Target}
 use Rattle.patterns.specs.declared.row.Target.TheVariants as to
-use Rattle.patterns.specs.declared.row.TernaryRow.{TernaryRow}
-use Rattle.patterns.specs.declared.row.RangeRow.{RangeRow}
-use Rattle.patterns.specs.Sound.{ternary_ok, span_ok}
 use Rattle.graphs.specs.declared.fault.GraphFault.{GraphFault}
 use Rattle.graphs.specs.declared.fault.GraphFault.TheVariants.{Target as AtTarget, Short}
-use Rattle.graphs.specs.declared.graph.Length.{Length}
-use Rattle.graphs.specs.declared.graph.Length.TheVariants.{Fixed, Counted}
-use Rattle.graphs.specs.View.{RowsView, ternary_rows, range_rows, NodeView, row_count, node_at, target_of}
+use Rattle.graphs.specs.declared.graph.Length.TheVariants.{Fixed}
+use Rattle.graphs.specs.View.{NodeView, row_count, node_at, target_of}
 use Rattle.graphs.specs.Checking.{target_sound, length_sound, target_fault, covered_fault, short_fault, node_fault, first_node, graph_fault}
 use Rattle.graph_reader.specs.declared.fault.FileFault.TheVariants.{Shape}
 use Rattle.graph_reader.specs.declared.fault.ReadFault.{ReadFault}
 use Rattle.graph_reader.specs.declared.fault.ReadFault.TheVariants.{File, Graph}
-use Rattle.graph_reader.specs.Records.{at, at2, at4, right, row_right, ternary_right, range_right}
+use Rattle.graph_reader.specs.Records.{at, at2, at4, right, row_right, ternary_right}
 use Rattle.graph_reader.specs.Files.{shape_right, shape_fault, record_at, pair_fault, byte_fault, file_fault}
 use Rattle.graph_reader.specs.Decoding.{ternary_in, range_in, rows_in, places_in, node_in, nodes_in}
-use Rattle.graph_reader.specs.Reading.{read_fault, reading}
+use Rattle.graph_reader.specs.Reading.{read_fault}
 use Rattle.graph_reader.proofs.Pairing.{Shaped, shape_says}
 use Rattle.graph_reader.proofs.Recorded.{Whole, record_whole, row_right_lem}
 use Rattle.graph_reader.proofs.Filed.{record_byte}

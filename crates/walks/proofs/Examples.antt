@@ -1,15 +1,11 @@
 -- The worked examples, computed.
-use Rattle.std.proofs.Common.{◌≡◌, ℕ, zero, suc, ◌<◌, Bool, true, ◌&&◌, ltb, List, [], ◌∷◌, length, get_or, take, Ok, sym, refl, ap, ◌∙◌, subst, arith}
+use Rattle.std.proofs.Common.{◌≡◌, ℕ, zero, suc, ◌<◌, Bool, true, ◌&&◌, ltb, List, [], ◌∷◌, length, get_or, take, refl, subst, arith}
 use Rattle.std.specs.List.{AllByRecursion as All}
 use Rattle.std.proofs.lemmas.Bool.{and_parts, ltb-true}
-use Rattle.headers.specs.declared.mark.Mark.{Mark}
-use Rattle.patterns.specs.Splitting.{top_block}
-use Rattle.graphs.specs.View.{NodeView}
 use Rattle.graph_reader.specs.Encoding.{encode}
 use Rattle.graph_reader.specs.Records.{right}
 use Rattle.graph_reader.specs.Files.{pair_right}
 use Rattle.graph_reader.specs.Decoding.{node_in}
-use Rattle.graph_reader.specs.Reading.{reading}
 use Rattle.walks.specs.declared.outcome.Ending.TheVariants.{Unfit}
 use Rattle.walks.specs.Outcomes.{outcome}
 use Rattle.walks.specs.Walk.{PlainWalk, unfit}

@@ -1,11 +1,11 @@
 -- The first that fits, in lists made of others, and as a store finds it.
-use Rattle.std.proofs.Common.{◌≡◌, ℕ, suc, ◌+◌, Bool, true, false, cond, ◌||◌, List, [], ◌∷◌, ◌++◌, map, get_or, Some, None, Option, sym, refl, ap, ◌∙◌, add-one, arith}
+use Rattle.std.proofs.Common.{◌≡◌, ℕ, ◌+◌, Bool, true, false, cond, ◌||◌, List, [], ◌∷◌, ◌++◌, map, get_or, Some, None, Option, refl, ap, ◌∙◌, add-one, arith}
 use Rattle.std.specs.List.{AllByRecursion as All}
 use Rattle.refusals.specs.Searching.{or_else, wrapped}
 use Rattle.patterns.specs.Finding.{first_from, some}
 use Rattle.stores.specs.declared.question.Question.{Question}
 use Rattle.stores.specs.Fits.{fits}
-use Rattle.stores.specs.Meaning.{answer, later}
+use Rattle.stores.specs.Meaning.{later}
 use Rattle.walks.specs.declared.action.Action.{Action}
 use Rattle.walks.specs.Rows.{StoreRow, action_at, answer_by}
 

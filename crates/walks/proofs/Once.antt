@@ -1,5 +1,5 @@
 -- A packet has one walk at most, and one reading by turns: each is what a function says that is given turns enough.
-use Rattle.std.proofs.Common.{◌≡◌, ℕ, zero, suc, ◌+◌, ◌<◌, ◌≤◌, Bool, true, false, ltb, leb, List, [], ◌∷◌, ◌++◌, length, Some, None, Option, sym, refl, ap, ◌∙◌, append-nil, arith}
+use Rattle.std.proofs.Common.{◌≡◌, ℕ, zero, suc, ◌+◌, ◌≤◌, Bool, true, false, ltb, List, [], ◌∷◌, ◌++◌, length, Some, None, Option, sym, refl, ap, ◌∙◌, append-nil, arith}
 use Rattle.std.proofs.lemmas.Bool.{lt-ltb, le-ltb, le-leb, lt-leb}
 use Rattle.headers.specs.declared.kinds.Kind.{Kind}
 use Rattle.headers.specs.declared.mark.Mark.{Mark}
@@ -15,7 +15,6 @@ use Rattle.walks.specs.Outcomes.{outcome}
 use Rattle.walks.specs.Walk as walk
 use Rattle.walks.specs.Walk.{Pos, offset, Held, reads, size_at, past, mark_at, decide_at, Refused, outside, under, overrun, Header, Walk}
 use Rattle.walks.specs.Rows.{Plan, action}
-use Rattle.walks.specs.Plans.{window}
 use Rattle.walks.specs.Turns as by
 use Rattle.walks.specs.Turns.{settled, passed, last_at, last_node, Singly, Asks, chained, singly, Turns}
 use Rattle.walks.specs.Turning.{Trace, trace, ahead, held, checked, refusal, follow, answered, asking, single, turn_by, turn, turns}

@@ -1,27 +1,25 @@
 -- A turn makes the steps of the walk.
-use Rattle.std.proofs.Common.{◌≡◌, ℕ, zero, suc, ◌+◌, ◌<◌, ◌≤◌, Bool, true, false, cond, ltb, leb, List, [], ◌∷◌, ◌++◌, map, length, Some, None, Decides, Option, sym, refl, ap, ◌∙◌, subst, append-nil, arith}
-use Rattle.std.specs.List.{AllByRecursion as All}
+use Rattle.std.proofs.Common.{◌≡◌, ℕ, ◌+◌, ◌<◌, ◌≤◌, Bool, true, false, cond, ltb, leb, List, [], ◌∷◌, ◌++◌, map, length, Some, None, Decides, Option, refl, ap, ◌∙◌, append-nil, arith}
 use Rattle.std.proofs.ByRecursion.{All-append, Decides-by_and}
 use Rattle.std.proofs.lemmas.List.{length-map}
-use Rattle.std.proofs.lemmas.Bool.{ltb-true, ltb-false, leb-true, leb-false, both_ways}
+use Rattle.std.proofs.lemmas.Bool.{ltb-true, ltb-false, leb-true, both_ways}
 use Rattle.std.proofs.lemmas.Bool.Decides.{Decides-ltb}
 use Rattle.headers.specs.declared.kinds.Kind.{Kind}
 use Rattle.patterns.specs.declared.row.Target.{Target}
 use Rattle.patterns.specs.declared.row.Target.TheVariants as to
-use Rattle.graphs.specs.declared.graph.Length.TheVariants.{Fixed}
 use Rattle.graphs.specs.View.{NodeView, node_at}
 use Rattle.stores.specs.declared.question.Question.{Question}
 use Rattle.walks.specs.declared.action.Action.{Action}
 use Rattle.walks.specs.Bytes.{byte_at}
-use Rattle.walks.specs.Walk.{Held, Pos, offset, reads, size_at, past, mark_at, key_at, decide_at, Refused, outside, under, overrun, Header, Walk, refused, unfit, drops, ends, on}
-use Rattle.walks.specs.Rows.{Plan, key_width, chain_base, action, leads_to, tried, pieces_at, entries, chain_entries, store_row, store_rows, question, answer_by}
-use Rattle.walks.specs.Plans.{IsFixed, AllFixed, Linked, lookups, Rules, Keeps, Lawful, fixed_size, reach, span, window}
+use Rattle.walks.specs.Walk.{Held, Pos, offset, reads, size_at, past, key_at, decide_at, outside, under, overrun, Header, Walk, refused, unfit, drops, ends, on}
+use Rattle.walks.specs.Rows.{Plan, chain_base, action, leads_to, tried, pieces_at, entries, chain_entries, store_row, store_rows, question, answer_by}
+use Rattle.walks.specs.Plans.{IsFixed, AllFixed, Rules, Keeps, fixed_size, reach, span, window}
 use Rattle.walks.specs.Turns.{settled, keys_at, passed, last_at, last_node}
-use Rattle.walks.specs.Turning.{Trace, held, checked, refusal, follow, answered, single, turn_by, turn}
+use Rattle.walks.specs.Turning.{Trace, held, checked, refusal, follow, single, turn_by, turn}
 use Rattle.walks.proofs.Spelling.{Bytes}
 use Rattle.walks.proofs.Fit.{fit_all}
 use Rattle.walks.proofs.Join.{choose, answer_to, Even, bump, after, alone_answer, chain_answer}
-use Rattle.walks.proofs.Store.{Fair, own_node, own_chain, rows_answer}
+use Rattle.walks.proofs.Store.{own_node, own_chain, rows_answer}
 use Rattle.walks.proofs.Sound.{Onward, Sound}
 use Rattle.walks.proofs.Pieces.{pieces_decide, pieces_even, tried_decides, tried_sound}
 use Rattle.walks.proofs.Widths.{leads, led_on, entries_fair, length_keys}

@@ -1,5 +1,5 @@
 -- The turns read a packet to its end, as the plain walk does, and put at most as many questions as there are marks.
-use Rattle.std.proofs.Common.{◌≡◌, ℕ, zero, suc, ◌+◌, ◌<◌, ◌≤◌, Bool, true, false, ltb, leb, List, [], ◌∷◌, ◌++◌, length, Some, None, Decides, Option, sym, refl, ap, ◌∙◌, subst, append-nil, arith, length-append}
+use Rattle.std.proofs.Common.{◌≡◌, ℕ, zero, suc, ◌+◌, ◌<◌, ◌≤◌, Bool, true, false, ltb, leb, List, [], ◌∷◌, length, Some, None, Decides, Option, sym, refl, ap, ◌∙◌, subst, append-nil, arith, length-append}
 use Rattle.std.proofs.lemmas.Bool.{ltb-true, ltb-false, leb-true, leb-false, both_ways}
 use Rattle.headers.specs.declared.kinds.Kind.{Kind}
 use Rattle.headers.specs.declared.mark.Mark.{Mark}
@@ -11,16 +11,16 @@ use Rattle.walks.specs.declared.action.Action.{Action}
 use Rattle.walks.specs.declared.outcome.Outcome.{Outcome}
 use Rattle.walks.specs.Walk as walk
 use Rattle.walks.specs.Walk.{Pos, start, offset, Held, reads, size_at, past, mark_at, Refused, outside, under, overrun, Header, Walk}
-use Rattle.walks.specs.Rows.{Plan, chain_base, action, entries, store_rows, question, answer_by}
+use Rattle.walks.specs.Rows.{Plan, action, entries, store_rows, answer_by}
 use Rattle.walks.specs.Plans.{Lawful, Keeps, Linked, window}
 use Rattle.walks.specs.Turns as by
 use Rattle.walks.specs.Turns.{settled, keys_at, passed, last_at, last_node, Singly, Asks, chained, singly, Turns}
-use Rattle.walks.specs.Turning.{Trace, held, checked, refusal, follow, answered, asking, single, turn_by, turn, turns, read_by}
+use Rattle.walks.specs.Turning.{Trace, held, checked, refusal, answered, asking, single, turn_by, turn, turns, read_by}
 use Rattle.walks.specs.Theorems.{OneWalk, ReadsPlainly}
 use Rattle.walks.proofs.Fit.{fit_all}
 use Rattle.walks.proofs.Join.{answer_to}
-use Rattle.walks.proofs.Sound.{Onward, Sound}
-use Rattle.walks.proofs.Widths.{Ahead, entries_ahead}
+use Rattle.walks.proofs.Sound.{Sound}
+use Rattle.walks.proofs.Widths.{entries_ahead}
 use Rattle.walks.proofs.Steps.{turn_walks, decides_held, decided_onward, node_says, chain_says}
 use Rattle.walks.proofs.Once.{one_walk, one_reading}
 

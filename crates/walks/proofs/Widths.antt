@@ -1,5 +1,5 @@
 -- The rows of a node and its chain: no pattern is longer than their lookup bytes, and each leads onward.
-use Rattle.std.proofs.Common.{◌≡◌, ℕ, suc, ◌+◌, ◌<◌, ◌≤◌, Bool, true, false, cond, List, [], ◌∷◌, ◌++◌, map, length, Some, None, sym, refl, ap, ◌∙◌, subst, arith, length-append}
+use Rattle.std.proofs.Common.{◌≡◌, ℕ, ◌<◌, true, List, [], ◌∷◌, ◌++◌, map, length, Some, sym, refl, ap, subst, arith, length-append}
 use Rattle.std.specs.List.{flat_map, AllByRecursion as All}
 use Rattle.std.proofs.ByRecursion.{All-append, All-map, All-weaker}
 use Rattle.std.proofs.lemmas.List.{length-map}
@@ -8,12 +8,11 @@ use Rattle.headers.specs.declared.kinds.Kind.{Kind}
 use Rattle.patterns.specs.declared.row.Target.{Target}
 use Rattle.patterns.specs.declared.row.Target.TheVariants as to
 use Rattle.graphs.specs.View.{NodeView, node_at}
-use Rattle.walks.specs.Walk.{Pos, past, key_at}
+use Rattle.walks.specs.Walk.{Pos, past}
 use Rattle.walks.specs.Rows.{Cell, Piece, tried, pieces_at, Entry, alone, join, closing, leads_to, expand, entries}
 use Rattle.walks.specs.Plans.{IsTarget, Linked, lookups}
 use Rattle.walks.specs.Turns.{keys_at}
-use Rattle.walks.proofs.Spelling.{Bytes, Small, values, masks}
-use Rattle.walks.proofs.Join.{Even}
+use Rattle.walks.proofs.Spelling.{Small, values, masks}
 use Rattle.walks.proofs.Store.{Fair}
 use Rattle.walks.proofs.Sound.{Onward, Sound}
 use Rattle.walks.proofs.Pieces.{pieces_even, pieces_small, pieces_lead, SmallPiece, tried_sound, tried_targets}

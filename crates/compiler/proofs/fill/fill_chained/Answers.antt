@@ -1,4 +1,4 @@
-use Rattle.std.proofs.Common.{◌≡◌, ◌+◌, [], map, length, sym, refl, ap, ◌∙◌, arith}
+use Rattle.std.proofs.Common.{◌+◌, map, length, sym, refl, ap, ◌∙◌, arith}
 use Rattle.graphs.specs.View.{graph_view}
 use Rattle.walks.specs.Rows.{entries, chain_entries, chain_rows, store_row}
 use Rattle.plans.specs.Chains.{chain_of}

@@ -1,4 +1,4 @@
-use Rattle.walks.proofs.Store.{own_node, own_chain, rows_answer}
+use Rattle.walks.proofs.Store.{own_node, own_chain}
 use Rattle.walks.proofs.theorems.states_stand_apart.Goals as goal
 
 pub returns : goal.returns
