@@ -1,7 +1,7 @@
 -- A graph that reading accepts is sound: each fact is what some test of the file's bytes or of the graph says.
 use Rattle.std.proofs.Common.{◌≡◌, ℕ, zero, suc, ◌+◌, ◌*◌, ◌^◌, ◌<◌, ◌≤◌, Bool, true, false, cond, eqb, ltb, leb, List, [], ◌∷◌, map, length, Some, None, Ok, Option, sym, refl, ap, ◌∙◌, subst, ap₂, arith}
 use lib.Bits.{bit_and, and_zero_l}
-use Rattle.std.specs.List.{range_with_len, AllByRecursion as All}
+use Rattle.std.specs.List.{range_with_len, AllByRecursion}
 use Rattle.std.proofs.lemmas.List.FromFn.{length-map-range_with_len, get_or-map-range_with_len}
 use Rattle.std.proofs.lemmas.List.{length-take-le}
 use Rattle.std.proofs.lemmas.Bool.{and_parts, and_from, leb-true, ltb-true, lt-ltb, le-ltb, eqb-true, eq-eqb, cond-true, cond-false, cond_both}
@@ -33,7 +33,7 @@ use Rattle.walks.specs.Theorems.{Accepted}
 use Rattle.walks.proofs.Spelling.{Small, values, masks, fits_spelled, cells_back}
 use Rattle.walks.proofs.Sound.{SoundTernary, SoundRange, SoundRows, Onward, Sound}
 
-all_counting : {X : Type 0} (P : X → Type 0) (f : ℕ → X) (n a : ℕ) → ((k : ℕ) → a ≤ k → k < a + n → P (f k)) → All P (map f (range_with_len a n))
+all_counting : {X : Type 0} (P : X → Type 0) (f : ℕ → X) (n a : ℕ) → ((k : ℕ) → a ≤ k → k < a + n → P (f k)) → AllByRecursion P (map f (range_with_len a n))
 all_counting P f zero a h = tt
 all_counting P f (suc n) a h = (h a (omega arith) (omega arith), all_counting P f n (a + 1) (λ k l u. h k (omega arith) (omega arith)))
 

@@ -1,6 +1,6 @@
 -- The worked examples, computed.
 use Rattle.std.proofs.Common.{◌≡◌, ℕ, zero, suc, ◌<◌, Bool, true, ◌&&◌, ltb, List, [], ◌∷◌, length, get_or, take, refl, subst, arith}
-use Rattle.std.specs.List.{AllByRecursion as All}
+use Rattle.std.specs.List.{AllByRecursion}
 use Rattle.std.proofs.lemmas.Bool.{and_parts, ltb-true}
 use Rattle.graph_reader.specs.Encoding.{encode}
 use Rattle.graph_reader.specs.Records.{right}
@@ -75,7 +75,7 @@ stands e a b c d f g =
 abbrev row : ℕ → Example
 row k = get_or examples k (example [] [] (outcome Unfit 0 0) 0 0)
 
-pub all_stand : All Stands examples
+pub all_stand : AllByRecursion Stands examples
 unfolding read_by cells_of
 all_stand = (
   stands (row 0) refl refl refl refl refl refl,

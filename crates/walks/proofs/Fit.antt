@@ -1,6 +1,6 @@
 -- The first that fits, in lists made of others, and as a store finds it.
 use Rattle.std.proofs.Common.{◌≡◌, ℕ, ◌+◌, Bool, true, false, cond, ◌||◌, List, [], ◌∷◌, ◌++◌, map, get_or, Some, None, Option, refl, ap, ◌∙◌, add-one, arith}
-use Rattle.std.specs.List.{AllByRecursion as All}
+use Rattle.std.specs.List.{AllByRecursion}
 use Rattle.refusals.specs.Searching.{or_else, wrapped}
 use Rattle.patterns.specs.Finding.{first_from, some}
 use Rattle.stores.specs.declared.question.Question.{Question}
@@ -32,7 +32,7 @@ module _ {X Y : Type 0} (fits : X → Bool) (give : X → Y) where
   fit_map h (z ∷ zs) = ap (cond (fits (h z)) (Some (give (h z)))) (fit_map h zs)
 
   -- what holds of each item holds of the one that is given
-  pub fit_all : (P : Y → Type 0) (xs : List X) → All (λ x. P (give x)) xs → (y : Y) → first_fit fits give xs ≡ Some y → P y
+  pub fit_all : (P : Y → Type 0) (xs : List X) → AllByRecursion (λ x. P (give x)) xs → (y : Y) → first_fit fits give xs ≡ Some y → P y
   fit_all P [] a y e = let z : ◌≡◌ {A = ℕ} 0 1 = cc in absurd (omega arith)
   fit_all P (x ∷ xs) a y e = go (fits x) e (fit_all P xs a.1 y)
     where
@@ -41,7 +41,7 @@ module _ {X Y : Type 0} (fits : X → Bool) (give : X → Y) where
       go false f rest = rest f
 
 -- two tests that agree
-pub fit_like : {X Y : Type 0} (f h : X → Bool) (give : X → Y) (xs : List X) → All (λ x. f x ≡ h x) xs → first_fit f give xs ≡ first_fit h give xs
+pub fit_like : {X Y : Type 0} (f h : X → Bool) (give : X → Y) (xs : List X) → AllByRecursion (λ x. f x ≡ h x) xs → first_fit f give xs ≡ first_fit h give xs
 fit_like f h give [] a = refl
 fit_like f h give (x ∷ xs) a = rw a.0 (ap (cond (h x) (Some (give x))) (fit_like f h give xs a.1))
 

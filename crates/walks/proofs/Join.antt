@@ -1,6 +1,6 @@
 -- What the rows of a node and its chain answer, byte by byte.
 use Rattle.std.proofs.Common.{◌≡◌, ℕ, suc, Bool, true, false, cond, ◌&&◌, List, [], ◌∷◌, ◌++◌, map, length, Some, None, Option, refl, ap, ◌∙◌, arith}
-use Rattle.std.specs.List.{flat_map, AllByRecursion as All}
+use Rattle.std.specs.List.{flat_map, AllByRecursion}
 use Rattle.refusals.specs.Searching.{or_else}
 use Rattle.patterns.specs.declared.row.Target.{Target}
 use Rattle.walks.specs.declared.action.Action.{Action}
@@ -17,7 +17,7 @@ answer_to es k = first_fit (λ (e : Entry). fits_cells e.cells k) (λ (e : Entry
 
 -- each pattern has w bytes
 abbrev pub Even : ℕ → List Piece → Type 0
-Even w rs = All (λ (r : Piece). length r.cells ≡ w) rs
+Even w rs = AllByRecursion (λ (r : Piece). length r.cells ≡ w) rs
 
 -- one header more
 abbrev pub bump : Action → Action

@@ -1,7 +1,7 @@
 -- The pieces of a node's rows decide as the rows do.
 use Rattle.std.proofs.Common.{◌≡◌, ℕ, zero, suc, ◌+◌, ◌-◌, ◌*◌, ◌/◌, ◌^◌, ◌<◌, ◌≤◌, Bool, true, false, cond, ◌&&◌, ◌||◌, T, eqb, leb, List, [], ◌∷◌, map, length, get_or, Some, None, Option, sym, refl, ap, ◌∙◌, arith, pow_pos}
 use lib.Bits.{bit_and, and_le_r}
-use Rattle.std.specs.List.{flat_map, AllByRecursion as All}
+use Rattle.std.specs.List.{flat_map, AllByRecursion}
 use Rattle.std.proofs.ByRecursion.{All-append}
 use Rattle.std.proofs.lemmas.Bool.{and_parts, eqb-true, ltb-true, leb-true, cond_both, both_ways}
 use Rattle.refusals.specs.Searching.{or_else}
@@ -29,7 +29,7 @@ passes_kept : {P : Type 0} (f : P → Bool) (b : Bool) (mk : T b → P) (x : Boo
 passes_kept f true mk x h e = h tt
 passes_kept f false mk x h e = absurd (both_ways false refl e)
 
-some_like : {X : Type 0} (f h : X → Bool) (xs : List X) → All (λ x. f x ≡ h x) xs → some f xs ≡ some h xs
+some_like : {X : Type 0} (f h : X → Bool) (xs : List X) → AllByRecursion (λ x. f x ≡ h x) xs → some f xs ≡ some h xs
 some_like f h [] a = refl
 some_like f h (x ∷ xs) a = rw a.0 (ap (λ b. h x || b) (some_like f h xs a.1))
 
@@ -56,8 +56,8 @@ module _ (w : ℕ) (r : TernaryRow) (sound : SoundTernary w r) where
       ∙ ap (λ x. fits_cells x (filled 0 4 k)) sound.behind
       ∙ filled_fits 4 (filled free w cs) k (omega (arith, length_filled free w cs)) (omega arith))
 
-ternaries_fit : (w : ℕ) (rs : List TernaryRow) → All (SoundTernary w) rs → (k : List ℕ) → length k ≡ w → w ≤ 4 → Bytes k
-    → All (λ r. fits_cells (ternary_piece w r).cells k ≡ row_fits ternary_of ternary_fits (spelled_in 4 k) r) rs
+ternaries_fit : (w : ℕ) (rs : List TernaryRow) → AllByRecursion (SoundTernary w) rs → (k : List ℕ) → length k ≡ w → w ≤ 4 → Bytes k
+    → AllByRecursion (λ r. fits_cells (ternary_piece w r).cells k ≡ row_fits ternary_of ternary_fits (spelled_in 4 k) r) rs
 ternaries_fit w [] a k e l b = tt
 ternaries_fit w (r ∷ rs) a k e l b = (ternary_fits_lem w r a.0 k e l b, ternaries_fit w rs a.1 k e l b)
 
@@ -67,10 +67,10 @@ ternaries_fit w (r ∷ rs) a k e l b = (ternary_fits_lem w r a.0 k e l b, ternar
 abbrev SmallBlock : Block → Type 0
 SmallBlock b = (b.value < 2 ^ 16) × (b.mask < 2 ^ 16)
 
-blocks_small : (steps low high : ℕ) → high < 2 ^ 16 → All SmallBlock (split_by steps low high)
+blocks_small : (steps low high : ℕ) → high < 2 ^ 16 → AllByRecursion SmallBlock (split_by steps low high)
 blocks_small zero low high h = tt
 blocks_small (suc steps) low high h =
-    cond_both (leb low high) (block_of low (top_block low high) ∷ split_by steps (low + 2 ^ top_block low high) high) [] (λ bs. All SmallBlock bs)
+    cond_both (leb low high) (block_of low (top_block low high) ∷ split_by steps (low + 2 ^ top_block low high) high) [] (λ bs. AllByRecursion SmallBlock bs)
     (λ t.
     let l : low ≤ high = leb-true low high t in
     let p : 0 < 2 ^ top_block low high = pow_pos (top_block low high) in
@@ -96,7 +96,7 @@ module _ (w a b : ℕ) (ks : List ℕ) (e : length (a ∷ b ∷ ks) ≡ w) (byte
       ∙ sym (cells_fit 2 x.value x.mask (a ∷ b ∷ []) s.0 s.1 refl (bytes.0, (bytes.1.0, tt)))
       ∙ ap (λ y. eqb (bit_and y x.mask) x.value) n
 
-  blocks_fit : (t : Target) (xs : List Block) → All SmallBlock xs → All (λ x. fits_cells (block_piece w t x).cells (a ∷ b ∷ ks) ≡ block_fits x (a * 256 + b)) xs
+  blocks_fit : (t : Target) (xs : List Block) → AllByRecursion SmallBlock xs → AllByRecursion (λ x. fits_cells (block_piece w t x).cells (a ∷ b ∷ ks) ≡ block_fits x (a * 256 + b)) xs
   blocks_fit t [] s = tt
   blocks_fit t (x ∷ xs) s = (block_fits_lem t x s.0, blocks_fit t xs s.1)
 
@@ -116,7 +116,7 @@ first_part : {Y : Type 0} (b c : Bool) (y : Y) (o q : Option Y) → b ≡ c → 
 first_part true c y o q e f = ap (λ x. cond x (Some y) q) e
 first_part false c y o q e f = f ∙ ap (λ x. cond x (Some y) q) e
 
-ranges_choose : (w : ℕ) (k : List ℕ) → length k ≡ w → 2 ≤ w → Bytes k → (rs : List RangeRow) → All SoundRange rs
+ranges_choose : (w : ℕ) (k : List ℕ) → length k ≡ w → 2 ≤ w → Bytes k → (rs : List RangeRow) → AllByRecursion SoundRange rs
     → choose (flat_map (range_pieces w) rs) k ≡ first_fit (λ r. row_fits span_of span_fits (spelled_in 4 k / 2 ^ 16) r) (λ r. r.target) rs
 ranges_choose w k e two b [] a = refl
 ranges_choose w [] e two b (r ∷ rs) a = absurd (omega arith)
@@ -174,22 +174,22 @@ pieces_even w (range_rows rs) = ranges_even w rs
 abbrev pub SmallPiece : Piece → Type 0
 SmallPiece r = Small r.cells
 
-ternaries_small : (w : ℕ) (rs : List TernaryRow) → All (SoundTernary w) rs → All SmallPiece (map (ternary_piece w) rs)
+ternaries_small : (w : ℕ) (rs : List TernaryRow) → AllByRecursion (SoundTernary w) rs → AllByRecursion SmallPiece (map (ternary_piece w) rs)
 ternaries_small w [] a = tt
 ternaries_small w (r ∷ rs) a = (ternary_small w r a.0, ternaries_small w rs a.1)
 
-block_pieces_small : (w : ℕ) (t : Target) (bs : List Block) → All SmallBlock bs → All SmallPiece (map (block_piece w t) bs)
+block_pieces_small : (w : ℕ) (t : Target) (bs : List Block) → AllByRecursion SmallBlock bs → AllByRecursion SmallPiece (map (block_piece w t) bs)
 block_pieces_small w t [] a = tt
 block_pieces_small w t (b ∷ bs) a = (small_filled w (cells_of 2 b.value b.mask) (cells_small 2 b.value b.mask a.0.0 a.0.1), block_pieces_small w t bs a.1)
 
-ranges_small : (w : ℕ) (rs : List RangeRow) → All SoundRange rs → All SmallPiece (flat_map (range_pieces w) rs)
+ranges_small : (w : ℕ) (rs : List RangeRow) → AllByRecursion SoundRange rs → AllByRecursion SmallPiece (flat_map (range_pieces w) rs)
 ranges_small w [] a = tt
 ranges_small w (r ∷ rs) a =
     All-append _ (range_pieces w r) (flat_map (range_pieces w) rs)
     (block_pieces_small w r.target (split_of r.low r.high) (blocks_small (r.high + 1 - r.low) r.low r.high (ltb-true _ _ (and_parts _ _ a.0).1)))
     (ranges_small w rs a.1)
 
-pub pieces_small : (w : ℕ) (rows : RowsView) → SoundRows w rows → All SmallPiece (pieces w rows)
+pub pieces_small : (w : ℕ) (rows : RowsView) → SoundRows w rows → AllByRecursion SmallPiece (pieces w rows)
 pieces_small w (ternary_rows rs) a = ternaries_small w rs a
 pieces_small w (range_rows rs) a = ranges_small w rs a.1
 
@@ -198,18 +198,18 @@ module _ (P : Target → Type 0) (w : ℕ) where
   abbrev Leads : Piece → Type 0
   Leads r = P r.target
 
-  ternaries_lead : (rs : List TernaryRow) → ((k : ℕ) → k < length rs → P (get_or rs k no_ternary).target) → All Leads (map (ternary_piece w) rs)
+  ternaries_lead : (rs : List TernaryRow) → ((k : ℕ) → k < length rs → P (get_or rs k no_ternary).target) → AllByRecursion Leads (map (ternary_piece w) rs)
   ternaries_lead [] a = tt
   ternaries_lead (r ∷ rs) a = (a 0 (omega arith), ternaries_lead rs (λ k h. a (suc k) (omega arith)))
 
-  blocks_lead : (t : Target) → P t → (bs : List Block) → All Leads (map (block_piece w t) bs)
+  blocks_lead : (t : Target) → P t → (bs : List Block) → AllByRecursion Leads (map (block_piece w t) bs)
   blocks_lead t h [] = tt
   blocks_lead t h (b ∷ bs) = (h, blocks_lead t h bs)
 
-  ranges_lead : (rs : List RangeRow) → ((k : ℕ) → k < length rs → P (get_or rs k no_range).target) → All Leads (flat_map (range_pieces w) rs)
+  ranges_lead : (rs : List RangeRow) → ((k : ℕ) → k < length rs → P (get_or rs k no_range).target) → AllByRecursion Leads (flat_map (range_pieces w) rs)
   ranges_lead [] a = tt
   ranges_lead (r ∷ rs) a = All-append _ (range_pieces w r) (flat_map (range_pieces w) rs) (blocks_lead r.target (a 0 (omega arith)) (split_of r.low r.high)) (ranges_lead rs (λ k h. a (suc k) (omega arith)))
 
-  pub pieces_lead : (rows : RowsView) → ((k : ℕ) → k < row_count rows → P (target_of rows k)) → All Leads (pieces w rows)
+  pub pieces_lead : (rows : RowsView) → ((k : ℕ) → k < row_count rows → P (target_of rows k)) → AllByRecursion Leads (pieces w rows)
   pieces_lead (ternary_rows rs) a = ternaries_lead rs a
   pieces_lead (range_rows rs) a = ranges_lead rs a

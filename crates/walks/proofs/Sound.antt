@@ -1,6 +1,6 @@
 -- What the theorem uses of a graph: what reading a graph file promises.
 use Rattle.std.proofs.Common.{◌≡◌, ℕ, ◌<◌, ◌≤◌, true, List, length}
-use Rattle.std.specs.List.{AllByRecursion as All}
+use Rattle.std.specs.List.{AllByRecursion}
 use Rattle.headers.specs.declared.kinds.Kind.{Kind}
 use Rattle.patterns.specs.declared.row.Target.{Target}
 use Rattle.patterns.specs.declared.row.Target.TheVariants as to
@@ -23,8 +23,8 @@ SoundRange r = span_ok r.low r.high ≡ true
 
 -- ranges have two lookup bytes at least
 abbrev pub SoundRows : ℕ → RowsView → Type 0
-SoundRows w (ternary_rows rs) = All (SoundTernary w) rs
-SoundRows w (range_rows rs) = (2 ≤ w) × All SoundRange rs
+SoundRows w (ternary_rows rs) = AllByRecursion (SoundTernary w) rs
+SoundRows w (range_rows rs) = (2 ≤ w) × AllByRecursion SoundRange rs
 
 -- a target of node n is a later node of the graph, done or dropped
 abbrev pub Onward : ℕ → ℕ → Target → Type 0

@@ -2,7 +2,7 @@
 use Rattle.std.proofs.Common.{◌≡◌, ℕ, zero, suc, ◌+◌, ◌*◌, ◌/◌, ◌%◌, ◌^◌, ◌<◌, ◌≤◌, Bool, true, ◌&&◌, eqb, List, [], ◌∷◌, ◌++◌, map, length, sym, refl, ap, ◌∙◌, ap₂, ⊎_elim, mod-lt, arith, lit<, pow_pos}
 use mathlib.Core.Bool.{and_assoc}
 use lib.Bits.{bit_and, and_block, and_lt, and_zero_r}
-use Rattle.std.specs.List.{AllByRecursion as All}
+use Rattle.std.specs.List.{AllByRecursion}
 use Rattle.std.proofs.lemmas.Nat.{pow-add, shr_split, mul-add-lt, div-mul-add, mod-mul-add, shr_below}
 use Rattle.std.proofs.lemmas.List.{length-map}
 use Rattle.std.proofs.lemmas.Bool.{eq-eqb, ne_eqb, cases_eq}
@@ -11,7 +11,7 @@ use Rattle.walks.specs.Rows.{Cell, free, cells_of}
 
 -- each number is a byte
 abbrev pub Bytes : List ℕ → Type 0
-Bytes xs = All (λ x. x < 256) xs
+Bytes xs = AllByRecursion (λ x. x < 256) xs
 
 abbrev pub values : List Cell → List ℕ
 values cs = map (λ c. c.value) cs

@@ -1,7 +1,7 @@
 -- A question fits rows of its own state only: the deciding row of the whole list is that of the state's own rows.
 use Rattle.std.proofs.Common.{◌≡◌, ℕ, zero, suc, ◌+◌, ◌%◌, ◌<◌, ◌≤◌, cond, ◌&&◌, eqb, List, [], ◌∷◌, ◌++◌, map, length, Some, None, Option, sym, refl, ap, ◌∙◌, ap₂, ⊎_elim, arith}
 use lib.Bits.{bit_and}
-use Rattle.std.specs.List.{range_with_len, flat_map, AllByRecursion as All}
+use Rattle.std.specs.List.{range_with_len, flat_map, AllByRecursion}
 use Rattle.std.proofs.lemmas.Bool.{eq-eqb, ne_eqb, cases_eq}
 use Rattle.refusals.specs.Searching.{or_else}
 use Rattle.graphs.specs.View.{NodeView}
@@ -80,11 +80,11 @@ pub record Fair (w : ℕ) (e : Entry) : Type 0 where
   pub small : Small e.cells
 
 -- rows under a state answer a question for it as their patterns do, byte by byte
-pub rows_answer : (s : ℕ) (k : List ℕ) → length k ≤ key_width → Bytes k → (es : List Entry) → All (Fair (length k)) es
+pub rows_answer : (s : ℕ) (k : List ℕ) → length k ≤ key_width → Bytes k → (es : List Entry) → AllByRecursion (Fair (length k)) es
     → answer_by (map (store_row s) es) (question s k) ≡ answer_to es k
 rows_answer s k short bytes es fair = answer_fits (question s k) (map (store_row s) es) ∙ fit_map _ _ (store_row s) es ∙ fit_like _ _ _ es (each es fair)
   where
-    each : (es : List Entry) → All (Fair (length k)) es → All (λ e. fits (store_row s e).row (question s k) ≡ fits_cells e.cells k) es
+    each : (es : List Entry) → AllByRecursion (Fair (length k)) es → AllByRecursion (λ e. fits (store_row s e).row (question s k) ≡ fits_cells e.cells k) es
     each [] a = tt
     each (e ∷ es) a =
         (ap₂ ◌&&◌ (eq-eqb (s % 64) (s % 64) refl) (fits_filled key_width e.cells k a.0.short short bytes a.0.small), each es a.1)

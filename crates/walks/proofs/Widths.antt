@@ -1,6 +1,6 @@
 -- The rows of a node and its chain: no pattern is longer than their lookup bytes, and each leads onward.
 use Rattle.std.proofs.Common.{◌≡◌, ℕ, ◌<◌, true, List, [], ◌∷◌, ◌++◌, map, length, Some, sym, refl, ap, subst, arith, length-append}
-use Rattle.std.specs.List.{flat_map, AllByRecursion as All}
+use Rattle.std.specs.List.{flat_map, AllByRecursion}
 use Rattle.std.proofs.ByRecursion.{All-append, All-map, All-weaker}
 use Rattle.std.proofs.lemmas.List.{length-map}
 use Rattle.std.proofs.lemmas.Bool.{eqb-true, cond_both}
@@ -23,17 +23,17 @@ leads c to.Done e = cc
 leads c to.Dropped e = cc
 
 -- what holds of each form of a row
-expand_all : (Q : Entry → Type 0) (c : ℕ) (rest : List Entry) (r : Piece) → All (λ e. Q (join r e)) rest → Q (closing r) → Q (alone r) → All Q (expand c rest r)
+expand_all : (Q : Entry → Type 0) (c : ℕ) (rest : List Entry) (r : Piece) → AllByRecursion (λ e. Q (join r e)) rest → Q (closing r) → Q (alone r) → AllByRecursion Q (expand c rest r)
 expand_all Q c rest r js h a =
-    cond_both (leads_to c r.target) (map (join r) rest ++ (closing r ∷ [])) (alone r ∷ []) (λ es. All Q es)
+    cond_both (leads_to c r.target) (map (join r) rest ++ (closing r ∷ [])) (alone r ∷ []) (λ es. AllByRecursion Q es)
     (λ _. All-append Q (map (join r) rest) (closing r ∷ []) (All-map Q (join r) rest js) (h, tt))
     (λ _. (a, tt))
 
-joined_all : (Q : Entry → Type 0) (P : Piece → Type 0) (f : Piece → List Entry) → ((r : Piece) → P r → All Q (f r)) → (rs : List Piece) → All P rs → All Q (flat_map f rs)
+joined_all : (Q : Entry → Type 0) (P : Piece → Type 0) (f : Piece → List Entry) → ((r : Piece) → P r → AllByRecursion Q (f r)) → (rs : List Piece) → AllByRecursion P rs → AllByRecursion Q (flat_map f rs)
 joined_all Q P f each [] a = tt
 joined_all Q P f each (r ∷ rs) a = All-append Q (f r) (flat_map f rs) (each r a.0) (joined_all Q P f each rs a.1)
 
-both_all : {X : Type 0} (P Q : X → Type 0) (xs : List X) → All P xs → All Q xs → All (λ x. P x × Q x) xs
+both_all : {X : Type 0} (P Q : X → Type 0) (xs : List X) → AllByRecursion P xs → AllByRecursion Q xs → AllByRecursion (λ x. P x × Q x) xs
 both_all P Q [] a b = tt
 both_all P Q (x ∷ xs) a b = ((a.0, b.0), both_all P Q xs a.1 b.1)
 
@@ -61,11 +61,11 @@ module _ (minimum : Kind → ℕ) (g : List NodeView) (sound : Sound minimum g) 
   abbrev Made : ℕ → Piece → Type 0
   Made n r = (length r.cells ≡ width n) × SmallPiece r
 
-  made : (n : ℕ) → n < length g → All (Made n) (pieces_at g n)
+  made : (n : ℕ) → n < length g → AllByRecursion (Made n) (pieces_at g n)
   made n l = both_all _ _ (pieces_at g n) (pieces_even (width n) (tried (node_at g n).rows)) (pieces_small (width n) (tried (node_at g n).rows) (tried_sound (width n) (node_at g n).rows (sound.rows n l)))
 
   -- patterns are no longer than the lookup bytes, and made of bytes
-  pub entries_fair : (cs : List ℕ) (n : ℕ) → n < length g → Linked g n cs → All (Fair (lookups g n cs)) (entries g n cs)
+  pub entries_fair : (cs : List ℕ) (n : ℕ) → n < length g → Linked g n cs → AllByRecursion (Fair (lookups g n cs)) (entries g n cs)
   entries_fair [] n l k = All-map _ alone (pieces_at g n) (All-weaker (Made n) (λ r. Fair (width n) (alone r)) (λ r h. record { short = omega (arith, h.0); small = h.1 }) (pieces_at g n) (made n l))
   entries_fair (c ∷ cs) n l k =
       let o = linked_onward n c l k.0 in
@@ -82,13 +82,13 @@ module _ (minimum : Kind → ℕ) (g : List NodeView) (sound : Sound minimum g) 
   abbrev Led : ℕ → Piece → Type 0
   Led n r = Onward (length g) n r.target
 
-  pub led_on : (n : ℕ) → n < length g → All (Led n) (pieces_at g n)
+  pub led_on : (n : ℕ) → n < length g → AllByRecursion (Led n) (pieces_at g n)
   led_on n l = pieces_lead (Onward (length g) n) (width n) (tried (node_at g n).rows) (tried_targets (Onward (length g) n) (node_at g n).rows (sound.onward n l))
 
   alone_ahead : (n : ℕ) (r : Piece) → Led n r → Ahead (length g) n (alone r)
   alone_ahead n r h m e = let same : r.target ≡ to.Node m = cc in subst (Onward (length g) n) same h
 
-  pub entries_ahead : (cs : List ℕ) (n : ℕ) → n < length g → Linked g n cs → All (Ahead (length g) n) (entries g n cs)
+  pub entries_ahead : (cs : List ℕ) (n : ℕ) → n < length g → Linked g n cs → AllByRecursion (Ahead (length g) n) (entries g n cs)
   entries_ahead [] n l k = All-map _ alone (pieces_at g n) (All-weaker (Led n) (λ r. Ahead (length g) n (alone r)) (alone_ahead n) (pieces_at g n) (led_on n l))
   entries_ahead (c ∷ cs) n l k =
       let o = linked_onward n c l k.0 in

@@ -1,10 +1,10 @@
 -- The window is the fewest bytes that hold node and chain.
 use Rattle.std.proofs.Common.{ℕ, ◌+◌, ◌<◌, ◌≤◌, List, [], ◌∷◌, arith}
-use Rattle.std.specs.List.{AllByRecursion as All}
+use Rattle.std.specs.List.{AllByRecursion}
 use Rattle.graphs.specs.View.{NodeView, node_at}
 use Rattle.walks.specs.Plans.{reach, fixed_size, window, Holds}
 
-reach_all : (b m : ℕ) (is : List ℕ) → b ≤ m → (b + reach is ≤ m → All (λ i. b + i < m) is) × (All (λ i. b + i < m) is → b + reach is ≤ m)
+reach_all : (b m : ℕ) (is : List ℕ) → b ≤ m → (b + reach is ≤ m → AllByRecursion (λ i. b + i < m) is) × (AllByRecursion (λ i. b + i < m) is → b + reach is ≤ m)
 reach_all b m [] l = (λ h. tt, λ h. omega arith)
 reach_all b m (i ∷ is) l = let r = reach_all b m is l in (λ h. (omega arith, r.0 (omega arith)), λ h. let q = r.1 h.1 in let p = h.0 in omega arith)
 

@@ -1,6 +1,6 @@
 -- The rules of a chain, its window, and how many rows a graph and a plan need.
 use Rattle.std.specs.Prelude.{◌≡◌, ℕ, zero, suc, ◌+◌, ◌*◌, ◌<◌, ◌≤◌, max, cond, List, [], ◌∷◌, length}
-use Rattle.std.specs.List.{AllByRecursion as All}
+use Rattle.std.specs.List.{AllByRecursion}
 use Rattle.patterns.specs.declared.row.Target.TheVariants as to
 use Rattle.patterns.specs.declared.row.TernaryRow.{TernaryRow}
 use Rattle.patterns.specs.declared.row.RangeRow.{RangeRow}
@@ -75,7 +75,7 @@ module _ (g : List NodeView) where
 
   -- m bytes hold the header and the lookup bytes of a node that begins at `from`
   abbrev pub HoldsNode : ℕ → ℕ → ℕ → Type 0
-  HoldsNode m from n = (from + fixed_size (node_at g n).len ≤ m) × All (λ i. from + i < m) (node_at g n).places
+  HoldsNode m from n = (from + fixed_size (node_at g n).len ≤ m) × AllByRecursion (λ i. from + i < m) (node_at g n).places
 
   -- and those of all nodes behind it, each right behind the one before
   abbrev pub Holds : ℕ → ℕ → ℕ → List ℕ → Type 0

@@ -1,6 +1,6 @@
 -- The plain walk: a packet read one header at a time, straight from the graph.
 use Rattle.std.specs.Prelude.{◌≡◌, ℕ, ◌+◌, ◌*◌, ◌/◌, ◌^◌, ◌<◌, ◌≤◌, List, [], ◌∷◌, ◌++◌, map, length, Some, None, Option, bit_and}
-use Rattle.std.specs.List.{AllByRecursion as All}
+use Rattle.std.specs.List.{AllByRecursion}
 use Rattle.headers.specs.declared.kinds.Kind.{Kind}
 use Rattle.headers.specs.declared.mark.Mark.{Mark}
 use Rattle.headers.specs.Kinds.{kind_number}
@@ -46,7 +46,7 @@ lookup_width = 4
 
 -- each of the places, counted from an offset on, lies in the packet
 abbrev pub Held : List ℕ → ℕ → List ℕ → Type 0
-Held p at places = All (λ i. at + i < length p) places
+Held p at places = AllByRecursion (λ i. at + i < length p) places
 
 -- what stands at node n of a graph, and at a position of a packet
 module _ (g : List NodeView) (p : List ℕ) where

@@ -1,6 +1,6 @@
 -- Worked examples: packets through the sample graph, once without chains and once with the tag taken in one look with Ethernet.
 use Rattle.std.specs.Prelude.{◌≡◌, ℕ, zero, suc, List, [], ◌∷◌, ◌++◌, length, take, replicate, Some, None, Option, slice_set}
-use Rattle.std.specs.List.{AllByRecursion as All}
+use Rattle.std.specs.List.{AllByRecursion}
 use Rattle.headers.specs.declared.kinds.Kind.{Kind}
 use Rattle.headers.specs.declared.kinds.Kind.TheVariants.{Ethernet, Vlan, Ipv4, Tcp}
 use Rattle.headers.specs.declared.mark.Mark.{Mark}
@@ -148,7 +148,7 @@ pub record WorkedExamples : Type 0 where
   pub lawful : Lawful four_nodes tag_in_one_look
   pub window : window four_nodes 0 (tag_in_one_look 0) ≡ 18
   -- the packets
-  pub packets : All Stands examples
+  pub packets : AllByRecursion Stands examples
   pub without_last_row : PlainWalk minimum no_catch_all ipv6 (take 1 four_marks) (outcome Unfit 0 0)
   -- 8 rows without chains, 13 with the plan
   pub rows : store_rows four_nodes no_chains ≡ plain_rows
