@@ -51,7 +51,7 @@ pub record WorkedExamples : Type 0 where
   -- records
   pub none : ReadAs (take 24 capture) [] None
   pub both : ReadAs capture (first_entry ∷ second_entry ∷ []) None
-  pub packet_cut_lem : ReadAs (take 72 capture) (first_entry ∷ []) (Some (PacketCut 54 3 2))
-  pub header_cut_lem : ReadAs (take 69 capture) (first_entry ∷ []) (Some (HeaderCut 54))
+  pub cut_in_packet : ReadAs (take 72 capture) (first_entry ∷ []) (Some (PacketCut 54 3 2))
+  pub cut_in_header : ReadAs (take 69 capture) (first_entry ∷ []) (Some (HeaderCut 54))
   -- behind the end
   pub behind : record_at (format_of Little Micro) capture 74 ≡ Err (HeaderCut 74)

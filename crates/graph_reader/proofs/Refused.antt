@@ -1,7 +1,7 @@
 -- What reading tells of a file is its least fault.
 use Rattle.std.proofs.Common.{◌≡◌, ℕ, ◌+◌, ◌<◌, ◌≤◌, false, eqb, ltb, ◌⊎◌, List, length, Some, None, Option, Result, sym, refl, ap, ◌∙◌, subst, ap₂, inl, inr, arith}
 use Rattle.std.proofs.lemmas.Bool.{and_cases, or_cases, or_parts, cases_Bool, leb-false, ltb-true, ltb-false, eqb-true, eqb-false}
-use Rattle.refusals.specs.Searching.{or_else, first_of, unless, wrapped, unless_fault}
+use Rattle.refusals.specs.Searching.{or_else, first_told, unless, wrapped, unless_fault}
 use Rattle.refusals.specs.Least.{rank, NotAfter, Answers}
 use Rattle.refusals.proofs.Searching.{or_else_none, wrapped_none}
 use Rattle.refusals.proofs.Lowest.{Lowest, lowest_like, lowest_or, lowest_of, lowest_unless, lowest_wrapped, lower}
@@ -100,7 +100,7 @@ module _ (r : ℕ → List ℕ) where
       (λ i j x y l p q. inr (refl, inr (refl, omega (arith, p.0, q.0))))
       (length (r n)) 0)
 
-  pub bytes_lowest : (k : ℕ) → Lowest before (ByteTold k) (first_of (λ n. wrapped (Byte n) (first_wrong (r n))) 0 k)
+  pub bytes_lowest : (k : ℕ) → Lowest before (ByteTold k) (first_told (λ n. wrapped (Byte n) (first_wrong (r n))) 0 k)
   bytes_lowest k =
       lowest_of before RecordTold (λ n. wrapped (Byte n) (first_wrong (r n))) record_lowest
       (λ i j e d l p q. subst (λ e. NotAfter (of_file e) (of_file d)) (sym p.1) (subst (λ d. NotAfter (of_file (Byte i p.0)) (of_file d)) (sym q.1) (inr (refl, inl l))))

@@ -30,7 +30,7 @@ use Rattle.graph_reader.proofs.Places.{ternary_length, range_length, row_at, hea
 four_back : (n : ℕ) → n / 16777216 * 16777216 + n / 65536 % 256 * 65536 + n / 256 % 256 * 256 + n % 256 ≡ n
 four_back n = omega arith
 
--- the node that `nodeAt` answers past the end
+-- the node that `node_at` answers past the end
 abbrev blank : NodeView
 blank = record { kind = Ethernet; len = Fixed 0; places = []; rows = ternary_rows [] }
 

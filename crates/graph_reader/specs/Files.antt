@@ -3,7 +3,7 @@ use Rattle.std.specs.Prelude.{ℕ, ◌+◌, ◌-◌, ◌*◌, Bool, cond, ◌&&�
 use Rattle.graph_reader.specs.declared.fault.FileFault.{FileFault}
 use Rattle.graph_reader.specs.declared.fault.FileFault.TheVariants.{Shape, Pair, Byte}
 use Rattle.graph_reader.specs.Records.{at, at2, right}
-use Rattle.refusals.specs.Searching.{or_else, first_of, unless, wrapped}
+use Rattle.refusals.specs.Searching.{or_else, first_told, unless, wrapped}
 
 -- 2 to 5,762 bytes, 1 to 32 nodes, then a zero
 abbrev pub shape_right : List ℕ → Bool
@@ -36,20 +36,20 @@ record_at f i = take (size f i) (drop (offset f i) f)
 
 -- the first wrong byte of a record
 abbrev pub first_wrong : List ℕ → Option ℕ
-first_wrong r = first_of (λ b. unless (right r b) b) 0 (length r)
+first_wrong r = first_told (λ b. unless (right r b) b) 0 (length r)
 
 -- numbers 1 to 3, in their order
 abbrev pub shape_fault : List ℕ → Option FileFault
 shape_fault f = unless (shape_right f) Shape
 
 abbrev pub pair_fault : List ℕ → Option FileFault
-pair_fault f = first_of (λ i. unless (pair_right f i) (Pair i)) 0 (at f 0)
+pair_fault f = first_told (λ i. unless (pair_right f i) (Pair i)) 0 (at f 0)
 
 abbrev pub record_fault : List ℕ → ℕ → Option FileFault
 record_fault f n = wrapped (Byte n) (first_wrong (record_at f n))
 
 abbrev pub byte_fault : List ℕ → Option FileFault
-byte_fault f = first_of (record_fault f) 0 (at f 0)
+byte_fault f = first_told (record_fault f) 0 (at f 0)
 
 abbrev pub file_fault : List ℕ → Option FileFault
 file_fault f = or_else (shape_fault f) (or_else (pair_fault f) (byte_fault f))

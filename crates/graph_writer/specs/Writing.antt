@@ -1,6 +1,6 @@
 -- What writing a graph tells, and what the area holds after.
 use Rattle.std.specs.Prelude.{◌≡◌, ℕ, ◌<◌, ◌≤◌, ◌&&◌, List, ◌++◌, length, take, drop, Some, None, Option, nat_le, slice_index_or}
-use Rattle.refusals.specs.Searching.{wrapped, first_of, unless, or_else}
+use Rattle.refusals.specs.Searching.{wrapped, first_told, unless, or_else}
 use Rattle.headers.specs.declared.kinds.Kind.{Kind}
 use Rattle.graphs.specs.declared.graph.Graph.{Graph}
 use Rattle.graphs.specs.declared.graph.Node.{Node}
@@ -30,7 +30,7 @@ abbrev pub record_fault_at : List Node → ℕ → Option FileFault
 record_fault_at ns n = node_byte_fault n (node_of ns n)
 
 abbrev pub records_fault : List Node → Option FileFault
-records_fault ns = first_of (record_fault_at ns) 0 (length ns)
+records_fault ns = first_told (record_fault_at ns) 0 (length ns)
 
 -- number 1: there are not 1 to 32 nodes
 abbrev pub count_fault : Graph → Option FileFault

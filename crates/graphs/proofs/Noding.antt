@@ -4,7 +4,7 @@ use Rattle.std.proofs.lemmas.List.{get_or-map, length-map}
 use Rattle.graphs.specs.declared.fault.GraphFault.{GraphFault}
 use Rattle.graphs.specs.declared.graph.Node.{Node}
 use Rattle.graphs.specs.View.{NodeView, node_view, node_at}
-use Rattle.refusals.specs.Searching.{first_of}
+use Rattle.refusals.specs.Searching.{first_told}
 use Rattle.graphs.specs.Checking.{node_fault}
 use Rattle.refusals.proofs.Searching.{found, passed, ended}
 
@@ -13,7 +13,7 @@ pub node_at_lem : (ns : List Node) {vs : List NodeView} → map node_view ns ≡
 node_at_lem ns shown n d h = ap (λ v. node_at v n) (sym shown) ∙ get_or-map node_view ns n d _ h
 
 module _ (f : ℕ → NodeView → Option GraphFault) (ns : List Node) (n : ℕ) {vs : List NodeView} (shown : map node_view ns ≡ vs)
-    {o : Option GraphFault} (inv : first_of (node_fault f vs) n (length vs - n) ≡ o) where
+    {o : Option GraphFault} (inv : first_told (node_fault f vs) n (length vs - n) ≡ o) where
   many : length vs ≡ length ns
   many = ap length (sym shown) ∙ length-map ns node_view
 
@@ -23,7 +23,7 @@ module _ (f : ℕ → NodeView → Option GraphFault) (ns : List Node) (n : ℕ)
   pub node_found : (d : Node) (x : GraphFault) → n < length ns → f n (node_view (get_or ns n d)) ≡ Some x → Some x ≡ o
   node_found d x h e = let m = many in found (node_fault f vs) n (length vs) inv x (omega arith) (here d h ∙ e)
 
-  pub node_passed : (d : Node) → n < length ns → f n (node_view (get_or ns n d)) ≡ None → first_of (node_fault f vs) (n + 1) (length vs - (n + 1)) ≡ o
+  pub node_passed : (d : Node) → n < length ns → f n (node_view (get_or ns n d)) ≡ None → first_told (node_fault f vs) (n + 1) (length vs - (n + 1)) ≡ o
   node_passed d h e = let m = many in passed (node_fault f vs) n (length vs) inv (omega arith) (here d h ∙ e)
 
   pub node_ended : length ns ≤ n → None ≡ o

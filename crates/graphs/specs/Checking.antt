@@ -1,6 +1,6 @@
 -- The checks of a graph as tests, and the first fault that they find. `Refusals` says the same in words.
 use Rattle.std.specs.Prelude.{ℕ, Bool, true, ◌&&◌, List, length, Option, nat_le, nat_lt}
-use Rattle.refusals.specs.Searching.{or_else, first_of, unless, wrapped}
+use Rattle.refusals.specs.Searching.{or_else, first_told, unless, wrapped}
 use Rattle.headers.specs.declared.kinds.Kind.{Kind}
 use Rattle.patterns.specs.declared.row.Target.{Target}
 use Rattle.patterns.specs.declared.row.Target.TheVariants.{Node, Done, Dropped}
@@ -28,7 +28,7 @@ abbrev pub row_fault : ℕ → ℕ → RowsView → ℕ → Option GraphFault
 row_fault count n rows k = unless (target_sound count n (target_of rows k)) (AtTarget n k)
 
 abbrev pub target_fault : ℕ → ℕ → NodeView → Option GraphFault
-target_fault count n v = first_of (row_fault count n v.rows) 0 (row_count v.rows)
+target_fault count n v = first_told (row_fault count n v.rows) 0 (row_count v.rows)
 
 -- with its rows
 abbrev pub covered_fault : ℕ → NodeView → Option GraphFault
@@ -39,7 +39,7 @@ abbrev pub node_fault : (ℕ → NodeView → Option GraphFault) → List NodeVi
 node_fault f vs n = f n (node_at vs n)
 
 abbrev pub first_node : (ℕ → NodeView → Option GraphFault) → List NodeView → Option GraphFault
-first_node f vs = first_of (node_fault f vs) 0 (length vs)
+first_node f vs = first_told (node_fault f vs) 0 (length vs)
 
 module _ (minimum : Kind → ℕ) where
   -- a fixed length is not under the kind's minimum

@@ -1,5 +1,5 @@
 -- A graph as what its counts name. Two graphs are the same if their views are.
-use Rattle.std.specs.Prelude.{◌≡◌, ℕ, ◌<◌, List, [], map, length, get_or, take, slice_index_or}
+use Rattle.std.specs.Prelude.{◌≡◌, ℕ, ◌<◌, List, [], map, length, take, slice_index_or}
 use Rattle.headers.specs.declared.kinds.Kind.{Kind}
 use Rattle.headers.specs.declared.kinds.Kind.TheVariants.{Ethernet}
 use Rattle.patterns.specs.declared.row.Target.{Target}
@@ -60,5 +60,5 @@ node_at vs n = slice_index_or vs n (record { kind = Ethernet; len = Fixed 0; pla
 
 -- the target of row k
 abbrev pub target_of : RowsView → ℕ → Target
-target_of (ternary_rows rs) k = (get_or rs k (record { value = 0; mask = 0; target = to.Node 0 })).target
-target_of (range_rows rs) k = (get_or rs k (record { low = 0; high = 0; target = to.Node 0 })).target
+target_of (ternary_rows rs) k = (slice_index_or rs k (record { value = 0; mask = 0; target = to.Node 0 })).target
+target_of (range_rows rs) k = (slice_index_or rs k (record { low = 0; high = 0; target = to.Node 0 })).target

@@ -60,3 +60,6 @@ ternary_named p = (p.value, value_wide p, eq-eqb _ _ (parts p).inside)
 
 pub span_covering : (p q : Span) → Decides (span_covers p q) ((k : ℕ) → k < 2 ^ 16 → span_fits q k ≡ true → span_fits p k ≡ true)
 span_covering p q = search rules
+
+pub span_named : (p : Span) → (k : ℕ) × (k < 2 ^ 16) × (span_fits p k ≡ true)
+span_named p = search rules

@@ -1,8 +1,7 @@
 // What is asked of every sort of pattern, and the two sorts: ternary patterns and ranges.
 ghost use Rattle.std.specs.Prelude.{◌≡◌, ◌^◌, ◌<◌, Bool, true, Decides, Option};
 ghost use Rattle.patterns.specs.Sorts.{ternary_of, ternary_fits, ternary_covers, span_of, span_fits, span_covers};
-ghost use Rattle.patterns.specs.Covering.{ternary_covering, ternary_named};
-ghost use Rattle.std.proofs.Common.{rules, arith};
+ghost use Rattle.patterns.specs.Covering.{ternary_covering, ternary_named, span_covering, span_named};
 
 use crate::row::{RangeRow, TernaryRow};
 use crate::span::Span;
@@ -106,9 +105,9 @@ impl Pattern for Span {
 
     ghost covers = { span_covers };
 
-    ghost covering = { first_of (Prim.search rules, Prim.grind (arith, Self.row.coded.inj)) };
+    ghost covering = { span_covering };
 
-    ghost named = { first_of (Prim.search rules, Prim.grind (arith, Self.row.coded.inj)) };
+    ghost named = { span_named };
 
     fn make(plain: &RangeRow) -> Option<Span> {
         if plain.low <= plain.high {

@@ -1,6 +1,6 @@
 -- The checks of a plan as tests, and the first fault that they find. `Refusals` says the same in words.
 use Rattle.std.specs.Prelude.{ℕ, ◌+◌, ◌-◌, ◌*◌, Bool, true, false, ◌&&◌, ◌||◌, List, [], ◌∷◌, length, Option, ◌==◌, nat_le, nat_lt, slice_index}
-use Rattle.refusals.specs.Searching.{or_else, first_of, unless}
+use Rattle.refusals.specs.Searching.{or_else, first_told, unless}
 use Rattle.patterns.specs.Finding.{some}
 use Rattle.graphs.specs.declared.graph.Length.{Length}
 use Rattle.graphs.specs.declared.graph.Length.TheVariants.{Fixed, Counted}
@@ -50,11 +50,11 @@ abbrev pub size_fault : ℕ → List ℕ → Option PlanFault
 size_fault count bytes = unless (length bytes == 4 * count) (Shape count)
 
 abbrev pub chains_fault : ℕ → List ℕ → Option PlanFault
-chains_fault count bytes = first_of (λ n. unless (chain_right (chain_at bytes n)) (Shape n)) 0 count
+chains_fault count bytes = first_told (λ n. unless (chain_right (chain_at bytes n)) (Shape n)) 0 count
 
 -- number 8: the first node whose chain breaks a rule
 abbrev pub rules_fault : List NodeView → Plan → ℕ → Option PlanFault
-rules_fault g chain count = first_of (λ n. unless (keeps g n (chain n)) (Rule n)) 0 count
+rules_fault g chain count = first_told (λ n. unless (keeps g n (chain n)) (Rule n)) 0 count
 
 -- what is wrong with a plan for a graph
 abbrev pub plan_fault : List NodeView → List ℕ → Option PlanFault

@@ -1,7 +1,7 @@
 // How far a node and its chain reach into a packet.
 ghost use Rattle.std.specs.Prelude.{◌≡◌, ◌+◌, ◌*◌, ◌≤◌, length};
 ghost use Rattle.graphs.specs.View.{node_view, graph_view};
-ghost use Rattle.walks.specs.Plans.{fixed_size, reach as reachOf, span as span_of, window as windowOf};
+ghost use Rattle.walks.specs.Plans.{fixed_size, reach, span, window};
 ghost use Rattle.plans.specs.Chains.{nodes_of};
 
 use crate::chains::Chain;
@@ -11,14 +11,14 @@ use graphs::graph::{Graph, Length, Node};
 /// The fewest bytes from the node's start on that hold every header and lookup byte of the node and
 /// its chain.
 pub fn window(graph: &Graph, node: u8, chain: &Chain) -> u16
-    ensures { result ≡ windowOf (graph_view graph.now) node (nodes_of chain.now) }
+    ensures { result ≡ window (graph_view graph.now) node (nodes_of chain.now) }
 {
     window_from(graph, node, chain.named_nodes())
 }
 
 fn window_from(graph: &Graph, node: u8, chain: &[u8]) -> u16
     requires { length chain.now ≤ 3 }
-    ensures is { result ≡ windowOf (graph_view graph.now) node chain.now }
+    ensures is { result ≡ window (graph_view graph.now) node chain.now }
     ensures small { result ≤ 256 * (length chain.now + 1) }
 {
     let here = node_at(graph, node);
@@ -32,7 +32,7 @@ fn window_from(graph: &Graph, node: u8, chain: &[u8]) -> u16
 
 // The bytes that a node takes: its header, and its lookup places, which may lie behind it.
 fn span(node: &Node) -> u16
-    ensures is { result ≡ span_of (node_view node.now) }
+    ensures is { result ≡ span (node_view node.now) }
     ensures small { result ≤ 256 }
 {
     fixed_size(node.length).max(reach(places_of(node)))
@@ -57,7 +57,7 @@ fn fixed_size(length: Length) -> u16
 
 // One more than the highest place.
 fn reach(places: &[u8]) -> u16
-    ensures is { result ≡ reachOf places.now }
+    ensures is { result ≡ reach places.now }
     ensures small { result ≤ 256 }
 {
     let mut top = 0;

@@ -3,7 +3,7 @@ use Rattle.std.proofs.Common.{◌≡◌, ℕ, zero, suc, ◌+◌, ◌<◌, ◌�
 use Rattle.std.proofs.lemmas.Bool.{cases_eq, cases_lt, both_ways}
 use Rattle.refusals.specs.declared.refusal.Refusal.{Refusal}
 use Rattle.refusals.specs.Least.{rank, NotAfter}
-use Rattle.refusals.specs.Searching.{or_else, first_of, unless, wrapped}
+use Rattle.refusals.specs.Searching.{or_else, first_told, unless, wrapped}
 
 module _ {E : Type 0} (order : E → E → Type 0) where
   abbrev pub Lowest : (E → Type 0) → Option E → Type 0
@@ -24,7 +24,7 @@ module _ {E : Type 0} (order : E → E → Type 0) where
   -- a search from place to place
   pub lowest_of : (P : ℕ → E → Type 0) (f : ℕ → Option E) → ((i : ℕ) → Lowest (P i) (f i))
       → ((i j : ℕ) (e d : E) → i < j → P i e → P j d → order e d)
-      → (k i : ℕ) → Lowest (λ e. (j : ℕ) × (i ≤ j) × (j < i + k) × P j e) (first_of f i k)
+      → (k i : ℕ) → Lowest (λ e. (j : ℕ) × (i ≤ j) × (j < i + k) × P j e) (first_told f i k)
   lowest_of P f each before zero i = λ e h. absurd (omega (arith, h.1, h.2))
   lowest_of P f each before (suc k) i =
       lowest_like (λ e. P i e ⊎ ((j : ℕ) × (i + 1 ≤ j) × (j < i + 1 + k) × P j e)) (λ e. (j : ℕ) × (i ≤ j) × (j < i + suc k) × P j e)
@@ -33,8 +33,8 @@ module _ {E : Type 0} (order : E → E → Type 0) where
         | inl s ↦ inl (subst (λ j. P j e) s h.3)
         | inr s ↦ inr (h.0, ne_above h.0 i h.1 s, omega (arith, h.2), h.3)
       ])
-      (or_else (f i) (first_of f (i + 1) k))
-      (lowest_or (P i) (λ e. (j : ℕ) × (i + 1 ≤ j) × (j < i + 1 + k) × P j e) (λ e d p q. before i q.0 e d (omega (arith, q.1)) p q.3) (f i) (first_of f (i + 1) k) (each i)
+      (or_else (f i) (first_told f (i + 1) k))
+      (lowest_or (P i) (λ e. (j : ℕ) × (i + 1 ≤ j) × (j < i + 1 + k) × P j e) (λ e d p q. before i q.0 e d (omega (arith, q.1)) p q.3) (f i) (first_told f (i + 1) k) (each i)
       (lowest_of P f each before k (i + 1)))
     where
       ne_above : (j i : ℕ) → i ≤ j → (j ≡ i → ⊥) → i + 1 ≤ j

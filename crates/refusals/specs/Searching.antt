@@ -7,9 +7,9 @@ or_else (Some x) o = Some x
 or_else None o = o
 
 -- the first answer of f among k places from i on
-abbrev pub first_of : {X : Type 0} → (ℕ → Option X) → ℕ → ℕ → Option X
-first_of f i zero = None
-first_of f i (suc k) = or_else (f i) (first_of f (i + 1) k)
+abbrev pub first_told : {X : Type 0} → (ℕ → Option X) → ℕ → ℕ → Option X
+first_told f i zero = None
+first_told f i (suc k) = or_else (f i) (first_told f (i + 1) k)
 
 -- what is said where a test fails
 abbrev pub unless : {X : Type 0} → Bool → X → Option X

@@ -1,4 +1,4 @@
--- Laws of `bit`, and what `trailing_zeros` says of it.
+-- Laws of `bit`, and of the lowest bit that is set.
 use Rattle.std.specs.Prelude.{◌≡◌, ℕ, zero, suc, ◌-◌, ◌/◌, ◌%◌, ◌^◌, ◌<◌, min, max, true, false, not, ◌&&◌, ◌||◌, ◌==◌, nat_eq, refl}
 use Rattle.std.proofs.Common.{sym, ap, ap₂, ◌∙◌, pow-suc, div-one, le_of_suc-le-suc, mod-lt, zero-lt-suc, one-add, arith, shr-shr, pow_pos, eq-eqb, ne_eqb}
 use Rattle.std.proofs.Math.Dec.{eqb-suc-suc, eqb-zero-suc, eqb-suc-zero}
@@ -49,32 +49,32 @@ or_half a b = let e = or_step a b in omega arith
 or_odd : (a b : ℕ) → bit_or a b % 2 ≡ max (a % 2) (b % 2)
 or_odd a b = let e = or_step a b in omega arith
 
-pub bit-bit_and : (r a b : ℕ) → bit r (bit_and a b) ≡ (bit r a && bit r b)
-bit-bit_and zero a b =
+pub bit_of_and : (r a b : ℕ) → bit r (bit_and a b) ≡ (bit r a && bit r b)
+bit_of_and zero a b =
     bit_low (bit_and a b) ∙ ap (λ (x : ℕ). nat_eq x 1) (and_odd a b) ∙ digit_and (a % 2) (b % 2) (omega arith) (omega arith)
     ∙ sym (ap₂ ◌&&◌ (bit_low a) (bit_low b))
-bit-bit_and (suc r) a b =
-    bit_suc r (bit_and a b) ∙ ap (bit r) (and_half a b) ∙ bit-bit_and r (a / 2) (b / 2)
+bit_of_and (suc r) a b =
+    bit_suc r (bit_and a b) ∙ ap (bit r) (and_half a b) ∙ bit_of_and r (a / 2) (b / 2)
     ∙ sym (ap₂ ◌&&◌ (bit_suc r a) (bit_suc r b))
 
-pub bit-bit_or : (r a b : ℕ) → bit r (bit_or a b) ≡ (bit r a || bit r b)
-bit-bit_or zero a b =
+pub bit_of_or : (r a b : ℕ) → bit r (bit_or a b) ≡ (bit r a || bit r b)
+bit_of_or zero a b =
     bit_low (bit_or a b) ∙ ap (λ (x : ℕ). nat_eq x 1) (or_odd a b) ∙ digit_or (a % 2) (b % 2) (omega arith) (omega arith)
     ∙ sym (ap₂ ◌||◌ (bit_low a) (bit_low b))
-bit-bit_or (suc r) a b =
-    bit_suc r (bit_or a b) ∙ ap (bit r) (or_half a b) ∙ bit-bit_or r (a / 2) (b / 2)
+bit_of_or (suc r) a b =
+    bit_suc r (bit_or a b) ∙ ap (bit r) (or_half a b) ∙ bit_of_or r (a / 2) (b / 2)
     ∙ sym (ap₂ ◌||◌ (bit_suc r a) (bit_suc r b))
 
 -- `!a` at a width of k bits
-pub bit_not : (k r a : ℕ) → r < k → a < 2 ^ k → bit r ((2 ^ k - 1) - a) ≡ not (bit r a)
-bit_not zero r a h l = absurd (omega arith)
-bit_not (suc k) zero a h l =
+pub bit_of_not : (k r a : ℕ) → r < k → a < 2 ^ k → bit r ((2 ^ k - 1) - a) ≡ not (bit r a)
+bit_of_not zero r a h l = absurd (omega arith)
+bit_of_not (suc k) zero a h l =
     let p = pow-suc 2 k in
     bit_low ((2 ^ suc k - 1) - a) ∙ digit_not (a % 2) (((2 ^ suc k - 1) - a) % 2) (omega arith) (omega arith) ∙ sym (ap not (bit_low a))
-bit_not (suc k) (suc r) a h l =
+bit_of_not (suc k) (suc r) a h l =
     let p = pow-suc 2 k in
     let e : ((2 ^ suc k - 1) - a) / 2 ≡ (2 ^ k - 1) - a / 2 = omega arith in
-    bit_suc r ((2 ^ suc k - 1) - a) ∙ ap (bit r) e ∙ bit_not k r (a / 2) (omega arith) (omega arith) ∙ sym (ap not (bit_suc r a))
+    bit_suc r ((2 ^ suc k - 1) - a) ∙ ap (bit r) e ∙ bit_of_not k r (a / 2) (omega arith) (omega arith) ∙ sym (ap not (bit_suc r a))
 
 pub bit_of_zero : (r : ℕ) → bit r 0 ≡ false
 bit_of_zero zero = bit_low 0
@@ -96,7 +96,7 @@ bit_one (suc r) (suc j) =
 pub bit_ones : (k r : ℕ) → r < k → bit r (2 ^ k - 1) ≡ true
 bit_ones k r h =
     let e : 2 ^ k - 1 ≡ (2 ^ k - 1) - 0 = omega arith in
-    ap (bit r) e ∙ bit_not k r 0 h (pow_pos k) ∙ ap not (bit_of_zero r)
+    ap (bit r) e ∙ bit_of_not k r 0 h (pow_pos k) ∙ ap not (bit_of_zero r)
 
 -- the trailing zeros are zeros
 below_step : (k n : ℕ) → ((r : ℕ) → r < count_trailing_zeros k (n / 2) → bit r (n / 2) ≡ false)

@@ -13,7 +13,7 @@ use Rattle.stores.specs.declared.question.Row.{Row}
 use Rattle.slices.specs.Bit.{bit}
 use Rattle.stores.specs.Fits.{fits}
 use Rattle.slices.specs.Words.{half_of, accepts, with_bit, named, agrees, row_at, rows_of}
-use Rattle.slices.specs.BitLaws.{bit-bit_and, bit-bit_or, bit_not, bit_one, bit_ones}
+use Rattle.slices.specs.BitLaws.{bit_of_and, bit_of_or, bit_of_not, bit_one, bit_ones}
 
 -- ---- one bit put
 
@@ -38,17 +38,17 @@ and_assoc true b c = refl
 and_assoc false b c = refl
 
 pub bit_with_same : (w r : ℕ) (b : Bool) → r < 64 → bit r (with_bit w r b) ≡ b
-bit_with_same w r true h = bit-bit_or r w (2 ^ r) ∙ ap (λ b. bit r w || b) (bit_one r r ∙ eq-eqb r r refl) ∙ or_true (bit r w)
+bit_with_same w r true h = bit_of_or r w (2 ^ r) ∙ ap (λ b. bit r w || b) (bit_one r r ∙ eq-eqb r r refl) ∙ or_true (bit r w)
 bit_with_same w r false h =
-    bit-bit_and r w ((2 ^ 64 - 1) - 2 ^ r)
-    ∙ ap (λ b. bit r w && b) (bit_not 64 r (2 ^ r) h (pow_below r 64 h) ∙ ap not (bit_one r r ∙ eq-eqb r r refl))
+    bit_of_and r w ((2 ^ 64 - 1) - 2 ^ r)
+    ∙ ap (λ b. bit r w && b) (bit_of_not 64 r (2 ^ r) h (pow_below r 64 h) ∙ ap not (bit_one r r ∙ eq-eqb r r refl))
     ∙ and_false (bit r w)
 
 pub bit_with_other : (w r : ℕ) (b : Bool) (j : ℕ) → r < 64 → j < 64 → (j ≢ r) → bit j (with_bit w r b) ≡ bit j w
-bit_with_other w r true j h hj ne = bit-bit_or j w (2 ^ r) ∙ ap (λ b. bit j w || b) (bit_one j r ∙ ne_eqb j r ne) ∙ or_false (bit j w)
+bit_with_other w r true j h hj ne = bit_of_or j w (2 ^ r) ∙ ap (λ b. bit j w || b) (bit_one j r ∙ ne_eqb j r ne) ∙ or_false (bit j w)
 bit_with_other w r false j h hj ne =
-    bit-bit_and j w ((2 ^ 64 - 1) - 2 ^ r)
-    ∙ ap (λ b. bit j w && b) (bit_not 64 j (2 ^ r) hj (pow_below r 64 h) ∙ ap not (bit_one j r ∙ ne_eqb j r ne))
+    bit_of_and j w ((2 ^ 64 - 1) - 2 ^ r)
+    ∙ ap (λ b. bit j w && b) (bit_of_not 64 j (2 ^ r) hj (pow_below r 64 h) ∙ ap not (bit_one j r ∙ ne_eqb j r ne))
     ∙ and_true (bit j w)
 
 -- ---- places
@@ -190,7 +190,7 @@ pub bit_named : (ws : List ℕ) (h : ℕ → ℕ) (r n : ℕ) → r < 64 → bit
 unfolding named agrees
 bit_named ws h r zero l = bit_ones 64 r l
 bit_named ws h r (suc p) l =
-    bit-bit_and r (named ws h p) (slice_index ws (p * 16 + h p)) ∙ ap (λ b. b && bit r (slice_index ws (p * 16 + h p))) (bit_named ws h r p l)
+    bit_of_and r (named ws h p) (slice_index ws (p * 16 + h p)) ∙ ap (λ b. b && bit r (slice_index ws (p * 16 + h p))) (bit_named ws h r p l)
 
 -- the same from what each word has become
 pub rows_put : (ws vs : List ℕ) (held : ℕ) (row : Row) → held < 64 → row.value < 2 ^ 64 → row.mask < 2 ^ 64

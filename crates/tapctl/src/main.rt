@@ -20,7 +20,8 @@ use crate::script::run_script;
 use std::process::ExitCode;
 use std::{env, io};
 
-/// Status 1 where the call fails, once its message is printed.
+/// Ends with status 1 where the call fails, once its message is printed; where the words cannot be
+/// read or nothing can be printed, with that error.
 fn main(rt: HostRuntime) -> Result<ExitCode, io::Error> {
     let mut args = env::args(&rt)?;
     let _program = args.next();

@@ -35,7 +35,7 @@ held p at [] = true
 held p at (i ∷ is) = nat_lt (at + i) (length p) && held p at is
 
 -- the three checks, in their order, from what each of them found
-abbrev pub checked : (heldAll short over : Bool) → Option Ending
+abbrev pub checked : (held_all short over : Bool) → Option Ending
 checked false short over = Some Cut
 checked true true over = Some Short
 checked true false true = Some Cut

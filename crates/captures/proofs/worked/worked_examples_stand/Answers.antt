@@ -25,7 +25,7 @@ returns c = record {
   other_link = refl;
   none = none_ends micro (cut 24) 24 refl;
   both = more (is_record micro capture 24 first_entry refl) (more (is_record micro capture 54 second_entry refl) (none_ends micro capture 73 refl));
-  packet_cut_lem = more (is_record micro (cut 72) 24 first_entry refl) (fault_ends micro (cut 72) 54 (PacketCut 54 3 2) refl);
-  header_cut_lem = more (is_record micro (cut 69) 24 first_entry refl) (fault_ends micro (cut 69) 54 (HeaderCut 54) refl);
+  cut_in_packet = more (is_record micro (cut 72) 24 first_entry refl) (fault_ends micro (cut 72) 54 (PacketCut 54 3 2) refl);
+  cut_in_header = more (is_record micro (cut 69) 24 first_entry refl) (fault_ends micro (cut 69) 54 (HeaderCut 54) refl);
   behind = refl;
 }

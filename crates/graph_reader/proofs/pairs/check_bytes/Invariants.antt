@@ -1,8 +1,8 @@
 use Rattle.std.proofs.Common.{◌≡◌, ◌-◌}
 use Rattle.graph_reader.specs.Records.{at}
-use Rattle.refusals.specs.Searching.{first_of}
+use Rattle.refusals.specs.Searching.{first_told}
 use Rattle.graph_reader.specs.Files.{record_fault, byte_fault}
 use Rattle.graph_reader.proofs.pairs.check_bytes.Given as goal
 
 abbrev pub invariant-loop-n : goal.invariant-loop-n
-invariant-loop-n l = first_of (record_fault l.file) l.n (at l.file 0 - l.n) ≡ byte_fault l.file
+invariant-loop-n l = first_told (record_fault l.file) l.n (at l.file 0 - l.n) ≡ byte_fault l.file

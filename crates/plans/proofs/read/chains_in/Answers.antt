@@ -1,6 +1,6 @@
 use Rattle.std.proofs.Common.{◌≡◌, ℕ, ◌-◌, ◌*◌, ◌<◌, true, false, length, Option, sym, ap, ◌∙◌, arith}
 use Rattle.std.proofs.lemmas.List.{length-set}
-use Rattle.refusals.specs.Searching.{first_of, unless}
+use Rattle.refusals.specs.Searching.{first_told, unless}
 use Rattle.refusals.proofs.Searching.{found, passed, ended}
 use Rattle.plans.specs.declared.fault.PlanFault.{PlanFault}
 use Rattle.plans.specs.declared.fault.PlanFault.TheVariants.{Shape}
@@ -13,7 +13,7 @@ pub loop-n-init : goal.loop-n-init
 loop-n-init c =
     let told : ℕ → Option PlanFault = λ n. unless (chain_right (chain_at c.args.bytes.now n)) (Shape n) in
     let all : c.args.count - 0 ≡ c.args.count = omega arith in
-    (ap (first_of told 0) all, λ k h. absurd (omega arith), λ k h. c.none-plan.ensures.is k, c.none-plan.ensures.whole)
+    (ap (first_told told 0) all, λ k h. absurd (omega arith), λ k h. c.none-plan.ensures.is k, c.none-plan.ensures.whole)
 
 pub returns-then-not-chain_right : goal.returns-then-not-chain_right
 returns-then-not-chain_right c =

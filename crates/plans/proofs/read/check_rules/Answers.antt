@@ -1,5 +1,5 @@
 use Rattle.std.proofs.Common.{◌≡◌, ℕ, ◌-◌, true, false, Option, sym, ap, ◌∙◌, arith}
-use Rattle.refusals.specs.Searching.{first_of, unless}
+use Rattle.refusals.specs.Searching.{first_told, unless}
 use Rattle.refusals.proofs.Searching.{found, passed, ended}
 use Rattle.graphs.specs.View.{graph_view}
 use Rattle.plans.specs.declared.fault.PlanFault.{PlanFault}
@@ -12,7 +12,7 @@ pub loop-n-init : goal.loop-n-init
 loop-n-init c =
     let told : ℕ → Option PlanFault = λ n. unless (keeps (graph_view c.args.graph.now) n (chain_of c.args.chains.now n)) (Rule n) in
     let all : c.args.count - 0 ≡ c.args.count = omega arith in
-    ap (first_of told 0) all
+    ap (first_told told 0) all
 
 pub returns-then-not-keeps_rules : goal.returns-then-not-keeps_rules
 returns-then-not-keeps_rules c =
