@@ -1,9 +1,9 @@
 -- The format that a file's first four bytes name, in numbers and in bytes.
+use Rattle.std.specs.Option.{option_or, option_map}
 use Rattle.std.proofs.Common.{◌≡◌, ℕ, ◌<◌, ◌≤◌, Bool, true, false, cond, eqb, leb, List, [], ◌∷◌, length, take, is_some, Some, None, Ok, Err, Decides, Option, Result, sym, refl, ap, ◌∙◌, subst, inl, inr, arith, lit<, MatchResult}
 use Rattle.std.proofs.lemmas.List.{get_or_past, get_or-take}
 use Rattle.std.proofs.lemmas.Bool.{cases_lt, both_ways, leb-true, leb-false, eqb-true, eqb-false}
 use Rattle.std.proofs.lemmas.Bool.Decides.{nat_tests}
-use Rattle.refusals.specs.Searching.{or_else, wrapped}
 use Rattle.captures.specs.declared.fault.CaptureFault.{CaptureFault}
 use Rattle.captures.specs.declared.fault.CaptureFault.TheVariants.{NotCapture, NotEthernet}
 use Rattle.captures.specs.declared.format.ByteOrder.{ByteOrder}
@@ -80,7 +80,7 @@ module _ (f : List ℕ) (small : (i : ℕ) → at f i < 256) where
   begins_from_format m h = by (resolution_of (number_at Big f 0)) (resolution_of (number_at Little f 0)) refl refl h
     where
       by : (p q : Option Resolution) → resolution_of (number_at Big f 0) ≡ p → resolution_of (number_at Little f 0) ≡ q
-          → or_else (wrapped (format_of Big) p) (wrapped (format_of Little) q) ≡ Some m → Begins f m
+          → option_or (option_map (format_of Big) p) (option_map (format_of Little) q) ≡ Some m → Begins f m
       by (Some r) q d e h =
           let s : format_of Big r ≡ m = cc in subst (Begins f) s (begins_from_number Big r (magic_from_resolution (number_at Big f 0) r d))
       by None (Some r) d e h =

@@ -103,9 +103,6 @@ module _ (m : Format) (f : List ℕ) where
     pub counted : count ≡ length passed
     pub then : (es : List Entry) (end : Option CaptureFault) → Capture m f o es end → Capture m f from (passed ++ es) end
 
-  pub reached_none : (o : ℕ) → Reached o 0 o
-  reached_none o = record { passed = []; counted = refl; then = λ es end c. c }
-
   pub reached_more : (from count o : ℕ) (e : Entry) (n : ℕ) → Reached from count o → record_at m f o ≡ Ok (Some e) → n ≡ count + 1
       → Reached from n e.next
   reached_more from count o e n r h one = record {

@@ -3,8 +3,8 @@
 --   4  major and minor version, 2 bytes each, and two numbers of 4 bytes that nothing uses: not looked at
 --  16  the most bytes that were kept of a packet, 4 bytes: not looked at
 --  20  link type, 4 bytes: the low 16 bits name it, and the others are not looked at
+use Rattle.std.specs.Option.{option_or, option_map}
 use Rattle.std.specs.Prelude.{◌≡◌, ℕ, ◌%◌, ◌<◌, ◌≤◌, cond, List, [], ◌∷◌, length, take, Some, None, Ok, Err, Option, Result, ◌==◌, ◌≢◌, nat_le}
-use Rattle.refusals.specs.Searching.{or_else, wrapped}
 use Rattle.captures.specs.declared.fault.CaptureFault.{CaptureFault}
 use Rattle.captures.specs.declared.fault.CaptureFault.TheVariants.{NotCapture, NotEthernet}
 use Rattle.captures.specs.declared.format.ByteOrder.{ByteOrder}
@@ -35,7 +35,7 @@ resolution_of n = cond (n == magic Micro) (Some Micro) (cond (n == magic Nano) (
 
 -- the format of a file: in one of the orders, its first four bytes spell a magic number
 abbrev pub format_in : List ℕ → Option Format
-format_in f = or_else (wrapped (format_of Big) (resolution_of (number_at Big f 0))) (wrapped (format_of Little) (resolution_of (number_at Little f 0)))
+format_in f = option_or (option_map (format_of Big) (resolution_of (number_at Big f 0))) (option_map (format_of Little) (resolution_of (number_at Little f 0)))
 
 -- the link type
 abbrev pub link_type : Format → List ℕ → ℕ

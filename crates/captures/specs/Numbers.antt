@@ -1,15 +1,16 @@
 -- Bytes of a file, and the numbers that they spell.
-use Rattle.std.specs.Prelude.{ℕ, ◌+◌, ◌*◌, List, slice_index}
+use Rattle.std.specs.Prelude.{ℕ, ◌+◌, List}
+use Rattle.octets.specs.Reading.{byte_at, spelled4}
 use Rattle.captures.specs.declared.format.ByteOrder.{ByteOrder}
 use Rattle.captures.specs.declared.format.ByteOrder.TheVariants.{Big, Little}
 
 -- the byte at a place; 0 behind the end
 abbrev pub at : List ℕ → ℕ → ℕ
-at f i = slice_index f i
+at f i = byte_at f i
 
 -- the number of four bytes, the highest first
 abbrev pub spelled : ℕ → ℕ → ℕ → ℕ → ℕ
-spelled a b c d = a * 16777216 + b * 65536 + c * 256 + d
+spelled a b c d = spelled4 a b c d
 
 -- the number of four bytes, in an order
 abbrev pub spelled_in : ByteOrder → ℕ → ℕ → ℕ → ℕ → ℕ

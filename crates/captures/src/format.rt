@@ -1,6 +1,8 @@
 // The header of a capture file.
+ghost use Rattle.std.specs.Option.{option_map};
 ghost use Rattle.std.specs.Prelude.{◌≡◌, is_some, Decides, MatchResult};
-ghost use Rattle.captures.specs.Formats.{resolution_of, format_in, opened, Begins, Opens, Refused};
+ghost use Rattle.captures.specs.Numbers.{number_at};
+ghost use Rattle.captures.specs.Formats.{format_of, resolution_of, format_in, opened, Begins, Opens, Refused};
 
 use crate::bytes::number_at;
 use crate::fault::CaptureFault;
@@ -35,9 +37,7 @@ pub fn open(file: &[u8]) -> Result<Format, CaptureFault>
     ensures is { result ≡ opened file.now }
     ensures says { MatchResult result (Opens file.now) (Refused file.now) }
 {
-    let Some(format) = format_in(file) else {
-        return Err(CaptureFault::NotCapture);
-    };
+    let format = format_in(file).ok_or(CaptureFault::NotCapture)?;
     if file.len() < HEADER {
         return Err(CaptureFault::NotCapture);
     }
@@ -53,29 +53,21 @@ pub fn is_capture(file: &[u8]) -> bool
     ensures is { result ≡ is_some (format_in file.now) }
     ensures begins { Decides result ((m : Format) × Begins file.now m) }
 {
-    match format_in(file) {
-        Some(_) => true,
-        None => false,
-    }
+    format_in(file).is_some()
 }
 
 // The format that the magic number names, in either order.
 fn format_in(file: &[u8]) -> Option<Format>
     ensures { result ≡ format_in file.now }
 {
-    if let Some(resolution) = resolution_of(number_at(file, ByteOrder::Big, 0)) {
-        return Some(Format {
-            order: ByteOrder::Big,
-            resolution,
-        });
-    }
-    if let Some(resolution) = resolution_of(number_at(file, ByteOrder::Little, 0)) {
-        return Some(Format {
-            order: ByteOrder::Little,
-            resolution,
-        });
-    }
-    None
+    format_by(file, ByteOrder::Big).or_else(|| format_by(file, ByteOrder::Little))
+}
+
+// The format that the magic number names, read in one order.
+fn format_by(file: &[u8], order: ByteOrder) -> Option<Format>
+    ensures { result ≡ option_map (format_of order) (resolution_of (number_at order file.now 0)) }
+{
+    resolution_of(number_at(file, order, 0)).map(|resolution| Format { order, resolution })
 }
 
 // The resolution that a magic number names.

@@ -7,4 +7,5 @@ pub mod fault;
 pub mod format;
 pub mod records;
 pub mod survey;
+pub mod text;
 pub mod worked;

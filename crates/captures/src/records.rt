@@ -35,14 +35,10 @@ pub fn next<'a>(
 ) -> Result<Option<Record<'a>>, CaptureFault>
     ensures { Gives format file.entry offset result }
 {
-    let Some(entry) = entry_at(file, format, offset)? else {
-        return Ok(None);
-    };
-    let from = entry.begin;
-    let to = entry.next;
-    Ok(Some(Record {
+    let entry = entry_at(file, format, offset)?;
+    Ok(entry.map(|entry| Record {
         entry,
-        packet: &file[from..to],
+        packet: &file[entry.begin..entry.next],
     }))
 }
 

@@ -16,26 +16,18 @@ pub struct Survey {
 pub fn count_records(file: &[u8], format: Format, from: usize) -> Survey
     ensures { Surveyed format file.now from result }
 {
+    // A count beside the loop: where a record begins is known only from the one before, so that there is no list to count.
     let mut records = 0;
     let mut offset = from;
-    loop {
+    let fault = loop {
         match entry_at(file, format, offset) {
             Ok(Some(entry)) => {
                 records += 1;
                 offset = entry.next;
             }
-            Ok(None) => {
-                return Survey {
-                    records,
-                    fault: None,
-                };
-            }
-            Err(fault) => {
-                return Survey {
-                    records,
-                    fault: Some(fault),
-                };
-            }
+            Ok(None) => break None,
+            Err(fault) => break Some(fault),
         }
-    }
+    };
+    Survey { records, fault }
 }

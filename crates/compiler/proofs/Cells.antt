@@ -1,10 +1,9 @@
 -- The cells of a piece, and the bytes that stand for them.
-use Rattle.std.proofs.Common.{◌≡◌, ℕ, zero, suc, ◌*◌, ◌/◌, ◌%◌, ◌≤◌, List, [], ◌∷◌, ◌++◌, map, take, drop, sym, refl, ap, ◌∙◌, ap₂, arith}
+use Rattle.std.proofs.Common.{length, ◌≡◌, ℕ, zero, suc, ◌*◌, ◌/◌, ◌%◌, ◌≤◌, List, [], ◌∷◌, ◌++◌, map, take, drop, sym, refl, ap, ◌∙◌, ap₂, arith}
 use Rattle.std.specs.List.{flat_map}
-use Rattle.std.proofs.lemmas.List.{map-append}
+use Rattle.std.proofs.lemmas.List.{drop_all, map-append}
 use Rattle.patterns.specs.declared.block.Block.{Block}
 use Rattle.patterns.specs.declared.row.Target.{Target}
-use Rattle.patterns.specs.declared.row.TernaryRow.{TernaryRow}
 use Rattle.patterns.specs.declared.row.RangeRow.{RangeRow}
 use Rattle.patterns.specs.Splitting.{split_of}
 use Rattle.graphs.specs.View.{RowsView, ternary_rows, range_rows}
@@ -13,8 +12,8 @@ use Rattle.walks.specs.Bytes.{filled}
 use Rattle.walks.specs.Rows as rows
 use Rattle.walks.specs.Rows.{Cell, free, cells_of, ternary_piece, block_piece, range_pieces, pieces}
 use Rattle.compiler.specs.declared.cursor.Cursor.{Cursor}
-use Rattle.compiler.specs.Pieces.{piece_at, ternary_as, block_as, range_as, left}
-use Rattle.compiler.proofs.Ranges.{spent}
+use Rattle.compiler.specs.Held.{held}
+use Rattle.compiler.specs.Pieces.{piece_at, block_as, range_as, left}
 
 -- four cells: the four bytes of value and mask
 abbrev cell : ℕ → ℕ → Cell
@@ -81,10 +80,6 @@ module _ (v m : ℕ) where
       go (suc (suc (suc (suc (suc w))))) h = absurd (omega arith)
 
 -- the pieces of a node are what a new cursor leaves of its rows
-ternary_pieces : (w : ℕ) (rs : List TernaryRow) → map (ternary_piece w) rs ≡ map (piece_at w) (map ternary_as rs)
-ternary_pieces w [] = refl
-ternary_pieces w (r ∷ rs) = ap (λ ps. ternary_piece w r ∷ ps) (ternary_pieces w rs)
-
 block_pieces : (w : ℕ) (t : Target) (bs : List Block) → map (block_piece w t) bs ≡ map (piece_at w) (map (block_as t) bs)
 block_pieces w t [] = refl
 block_pieces w t (b ∷ bs) = ap₂ (λ p ps. p ∷ ps) (block_piece_lem w t b) (block_pieces w t bs)
@@ -95,8 +90,8 @@ range_pieces_lem w (r ∷ rs) =
     ap₂ (λ xs ys. xs ++ ys) (block_pieces w r.target (split_of r.low r.high)) (range_pieces_lem w rs)
     ∙ sym (map-append (piece_at w) (range_as r) (flat_map range_as rs))
 
-pub pieces_left : (w : ℕ) (rows : RowsView) (k : Cursor) → k.row ≡ 0 → k.count ≡ 0 → pieces w rows ≡ map (piece_at w) (left rows k)
-pieces_left w (ternary_rows rs) k r n = ternary_pieces w rs ∙ ap (λ i. map (piece_at w) (map ternary_as (drop i rs))) (sym r)
+pub pieces_left : (w : ℕ) (rows : RowsView) (k : Cursor) → k.row ≡ 0 → held k.blocks ≡ [] → pieces w rows ≡ map (piece_at w) (left rows k)
+pieces_left w (ternary_rows rs) k r n = ap (λ i. map (ternary_piece w) (drop i rs)) (sym r)
 pieces_left w (range_rows rs) k r n =
     range_pieces_lem w rs ∙ ap (λ i. map (piece_at w) (flat_map range_as (drop i rs))) (sym r)
-    ∙ ap (map (piece_at w)) (sym (spent rs k.target k.count k.blocks k.next k.row (omega arith)))
+    ∙ ap (λ bs. map (piece_at w) (map (block_as k.target) bs ++ flat_map range_as (drop k.row rs))) (sym (drop_all k.next (held k.blocks) (omega (arith, ap length n))))

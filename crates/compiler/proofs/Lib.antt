@@ -1,5 +1,4 @@
 pub mod Packing
-pub mod Ranges
 pub mod Sinking
 pub mod Cells
 pub mod Joining

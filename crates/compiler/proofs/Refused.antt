@@ -1,7 +1,8 @@
 -- What a load is refused for is its least fault.
+use Rattle.std.specs.Option.{option_or}
 use Rattle.std.proofs.Common.{◌≡◌, ℕ, ◌*◌, ◌<◌, ◌≤◌, min, Bool, true, false, eqb, leb, ◌⊎◌, List, length, Some, None, Ok, Option, sym, refl, ap, ◌∙◌, subst, inl, inr, arith}
 use Rattle.std.proofs.lemmas.Bool.{and_cases, and_parts, leb-true, leb-false, eqb-true}
-use Rattle.refusals.specs.Searching.{unless, unless_fault, or_else}
+use Rattle.refusals.specs.Searching.{unless, unless_fault}
 use Rattle.refusals.specs.Least.{rank, NotAfter, Least}
 use Rattle.refusals.proofs.Searching.{unless_none, or_else_none}
 use Rattle.headers.specs.declared.kinds.Kind.{Kind}
@@ -45,7 +46,7 @@ read_is minimum f g e = go (read_fault minimum f) e
 pub size_is : (g : List NodeView) (p : List ℕ) → None ≡ plan_fault g p → length p ≡ 4 * length g
 size_is g p e =
     eqb-true _ _ (unless_none (eqb (length p) (4 * length g)) (Shape (length g))
-    (or_else_none (size_fault (length g) p) (or_else (chains_fault (length g) p) (rules_fault g (chain_in p) (length g))) (sym e)).0)
+    (or_else_none (size_fault (length g) p) (option_or (chains_fault (length g) p) (rules_fault g (chain_in p) (length g))) (sym e)).0)
 
 -- a cut count is room for the store exactly if the count is
 pub roomy_cut : (count capacity : ℕ) → roomy (min count 65535) capacity ≡ true → (count ≤ 512) × (count ≤ capacity)

@@ -1,15 +1,10 @@
 -- Rows put one after the other.
-use Rattle.std.proofs.Common.{◌≡◌, ℕ, ◌+◌, ◌-◌, ◌<◌, ◌≤◌, Bool, List, [], ◌∷◌, ◌++◌, map, length, sym, refl, ap, ◌∙◌, subst, ap₂, arith}
-use Rattle.std.proofs.lemmas.List.{append-nil, append_assoc, map-append, length-append, length-map, length-take-le}
+use Rattle.std.proofs.Common.{◌≡◌, ℕ, ◌+◌, ◌-◌, ◌≤◌, Bool, List, [], ◌++◌, map, length, sym, refl, ap, ◌∙◌, subst, ap₂, arith}
+use Rattle.std.proofs.lemmas.List.{append-nil, append_assoc, map-append, length-append, length-map}
 use Rattle.stores.specs.declared.question.Question.{Question}
 use Rattle.stores.specs.Meaning.{Meaning, holding}
 use Rattle.walks.specs.declared.action.Action.{Action}
-use Rattle.compiler.specs.declared.actions.Actions.{Actions}
-use Rattle.compiler.specs.Sinks.{actions_of, Line, Sink, sink, sunk, Room}
-
--- as many actions as are counted
-pub held_count : (a : Actions) → length (actions_of a) ≡ a.count
-held_count a = length-take-le a.count a.list (omega (arith, a.whole, a.within))
+use Rattle.compiler.specs.Sinks.{Line, Sink, sink, sunk, Room}
 
 -- the two halves of rows
 abbrev fits_in : List Line → List (Question → Bool)
@@ -54,11 +49,8 @@ going_on s t xs ys whole e h =
 pub going_done : (s whole : Sink) → Going s [] whole → s ≡ whole
 going_done s whole h = sym (sunk_none s) ∙ h.gives
 
--- room for the next row, and for the next rows
-pub going_room : (m : Meaning) (a : Actions) (x : Line) (xs : List Line) (whole : Sink) → Going (sink m (actions_of a)) (x ∷ xs) whole → (0 < m.takes) × (a.count < 512)
-going_room m a x xs whole h = (omega (arith, h.taken), omega (arith, h.beside, held_count a))
-
-pub going_rooms : {X : Type 0} (s : Sink) (f : X → Line) (es : List X) (ys : List Line) (whole : Sink) → Going s (map f es ++ ys) whole → Room s.meaning s.actions es
+-- room for the next rows
+pub going_rooms : {X : Type 0} (s : Sink) (f : X → Line) (es : List X) (ys : List Line) (whole : Sink) → Going s (map f es ++ ys) whole → Room s es
 going_rooms s f es ys whole h =
     record {
       taken = omega (arith, h.taken, length-append (map f es) ys, length-map es f);
@@ -66,12 +58,12 @@ going_rooms s f es ys whole h =
     }
 
 -- room for as many other rows
-pub room_like : {X Y : Type 0} (m : Meaning) (acts : List Action) (xs : List X) (ys : List Y) → length xs ≡ length ys → Room m acts xs → Room m acts ys
-room_like m acts xs ys e r = record { taken = omega (arith, r.taken); beside = omega (arith, r.beside) }
+pub room_like : {X Y : Type 0} (s : Sink) (xs : List X) (ys : List Y) → length xs ≡ length ys → Room s xs → Room s ys
+room_like s xs ys e r = record { taken = omega (arith, r.taken); beside = omega (arith, r.beside) }
 
 -- rows that have room are going
-pub going_begin : {X : Type 0} (s : Sink) (f : X → Line) (xs : List X) → Room s.meaning s.actions xs → Going s (map f xs) (sunk s (map f xs))
+pub going_begin : {X : Type 0} (s : Sink) (f : X → Line) (xs : List X) → Room s xs → Going s (map f xs) (sunk s (map f xs))
 going_begin s f xs r = record { gives = refl; taken = omega (arith, r.taken, length-map xs f); beside = omega (arith, r.beside, length-map xs f) }
 
-pub going_last : {X : Type 0} (s : Sink) (f : X → Line) (es : List X) (whole : Sink) → Going s (map f es) whole → Room s.meaning s.actions es
+pub going_last : {X : Type 0} (s : Sink) (f : X → Line) (es : List X) (whole : Sink) → Going s (map f es) whole → Room s es
 going_last s f es whole h = going_rooms s f es [] whole (going_same s (map f es) (map f es ++ []) whole (sym (append-nil (map f es))) h)

@@ -1,3 +1,4 @@
+pub mod Held
 pub mod Pieces
 pub mod Sinks
 pub mod Filled

@@ -2,7 +2,6 @@
 use Rattle.std.specs.Prelude.{◌≡◌, ℕ, ◌-◌, ◌*◌, ◌<◌, ◌≤◌, min, Bool, ◌&&◌, ◌⊎◌, List, map, length, Ok, Err, Result, nat_le}
 use Rattle.headers.specs.declared.kinds.Kind.{Kind}
 use Rattle.graphs.specs.View.{NodeView, graph_view}
-use Rattle.graphs.specs.declared.graph.Graph as graph
 use Rattle.graphs.specs.Refusals.{GraphApplies}
 use Rattle.graph_reader.specs.Refusals.{FileApplies}
 use Rattle.graph_reader.specs.Decoding.{nodes_in}
@@ -11,7 +10,7 @@ use Rattle.stores.specs.Fits.{fits}
 use Rattle.stores.specs.Meaning.{Meaning, holding}
 use Rattle.walks.specs.Rows.{StoreRow, store_rows}
 use Rattle.walks.specs.Plans.{Lawful, store_count}
-use Rattle.plans.specs.declared.chains.Chains.{Chains}
+use Rattle.compiler.specs.declared.checked.Checked.{Checked}
 use Rattle.plans.specs.Chains.{chain_of, chain_in}
 use Rattle.plans.specs.Refusals.{PlanApplies}
 use Rattle.compiler.specs.declared.fault.LoadFault.{LoadFault}
@@ -56,10 +55,10 @@ Kept (Ok x) before after p q = Unit {0}
 Kept (Err e) before after p q = (after ≡ before) × (q ≡ p)
 
 -- what is known once nothing is refused
-pub record Loadable (minimum : Kind → ℕ) (file plan : List ℕ) (capacity : ℕ) (g : graph.Graph) (chains : Chains) : Type 0 where
-  pub read : reading minimum file ≡ Ok (graph_view g)
-  pub same : chain_of chains ≡ chain_in plan
-  pub lawful : Lawful (graph_view g) (chain_of chains)
-  pub size : length plan ≡ 4 * length (graph_view g)
-  pub few : store_count (graph_view g) (chain_of chains) ≤ 512
-  pub room : store_count (graph_view g) (chain_of chains) ≤ capacity
+pub record Loadable (minimum : Kind → ℕ) (file plan : List ℕ) (capacity : ℕ) (c : Checked) : Type 0 where
+  pub read : reading minimum file ≡ Ok (graph_view c.graph)
+  pub same : chain_of c.chains ≡ chain_in plan
+  pub lawful : Lawful (graph_view c.graph) (chain_of c.chains)
+  pub size : length plan ≡ 4 * length (graph_view c.graph)
+  pub few : store_count (graph_view c.graph) (chain_of c.chains) ≤ 512
+  pub room : store_count (graph_view c.graph) (chain_of c.chains) ≤ capacity

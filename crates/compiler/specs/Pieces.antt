@@ -1,39 +1,39 @@
 -- The ternary rows of a node, one after the other.
-use Rattle.std.specs.Prelude.{ℕ, ◌*◌, List, [], ◌∷◌, ◌++◌, map, take, drop, Some, None, Option}
+use Rattle.std.specs.Prelude.{ℕ, ◌*◌, List, [], ◌∷◌, ◌++◌, map, drop, Some, None, Option}
 use Rattle.std.specs.List.{flat_map}
 use Rattle.patterns.specs.declared.block.Block.{Block}
 use Rattle.patterns.specs.declared.row.Target.{Target}
 use Rattle.patterns.specs.declared.row.TernaryRow.{TernaryRow}
 use Rattle.patterns.specs.declared.row.RangeRow.{RangeRow}
 use Rattle.patterns.specs.Splitting.{split_of}
-use Rattle.graphs.specs.View.{RowsView, ternary_rows, range_rows}
+use Rattle.graphs.specs.View.{RowsView, ternary_rows, range_rows, node_view}
 use Rattle.walks.specs.Bytes.{filled}
 use Rattle.walks.specs.Rows as rows
 use Rattle.walks.specs.Rows.{free, cells_of}
-use Rattle.compiler.specs.declared.cursor.Piece.{Piece}
 use Rattle.compiler.specs.declared.cursor.Cursor.{Cursor}
+use Rattle.compiler.specs.Held.{held}
 
 -- a piece at a node with w lookup bytes
-abbrev pub piece_at : ℕ → Piece → rows.Piece
+abbrev pub piece_at : ℕ → TernaryRow → rows.Piece
 piece_at w p = rows.piece (filled free w (cells_of 4 p.value p.mask)) p.target
 
--- a ternary row, and a block of a range: its number stands in the first two bytes
-abbrev pub ternary_as : TernaryRow → Piece
-ternary_as r = record { value = r.value; mask = r.mask; target = r.target }
-
-abbrev pub block_as : Target → Block → Piece
+-- a block of a range: its number stands in the first two bytes
+abbrev pub block_as : Target → Block → TernaryRow
 block_as t b = record { value = b.value * 65536; mask = b.mask * 65536; target = t }
 
-abbrev pub range_as : RangeRow → List Piece
+abbrev pub range_as : RangeRow → List TernaryRow
 range_as r = map (block_as r.target) (split_of r.low r.high)
 
 -- what a cursor leaves of a node's rows
-abbrev pub ranges_left : List RangeRow → Cursor → List Piece
-ranges_left rs k = map (block_as k.target) (drop k.next (take k.count k.blocks)) ++ flat_map range_as (drop k.row rs)
+abbrev pub ranges_left : List RangeRow → Cursor → List TernaryRow
+ranges_left rs k = map (block_as k.target) (drop k.next (held k.blocks)) ++ flat_map range_as (drop k.row rs)
 
-abbrev pub left : RowsView → Cursor → List Piece
-left (ternary_rows rs) k = map ternary_as (drop k.row rs)
+abbrev pub left : RowsView → Cursor → List TernaryRow
+left (ternary_rows rs) k = drop k.row rs
 left (range_rows rs) k = ranges_left rs k
+
+abbrev pub left_in : Cursor → List TernaryRow
+left_in k = left (node_view k.node.now).rows k
 
 -- the first of a list, and the others
 abbrev pub head_of : {X : Type 0} → List X → Option X

@@ -1,22 +1,17 @@
 -- Rows with their actions, put one after the other into a store and a list of actions.
-use Rattle.std.specs.Prelude.{ℕ, ◌+◌, ◌-◌, ◌*◌, ◌≤◌, Bool, false, ◌&&◌, List, [], ◌∷◌, ◌++◌, map, length, take, Option, ◌==◌, bit_and}
+use Rattle.std.specs.Prelude.{◌≡◌, ℕ, ◌+◌, ◌-◌, ◌*◌, ◌≤◌, Bool, false, ◌&&◌, List, [], ◌∷◌, ◌++◌, map, length, take, Option, ◌==◌, bit_and}
 use Rattle.patterns.specs.declared.row.Target.{Target}
+use Rattle.patterns.specs.declared.row.TernaryRow.{TernaryRow}
 use Rattle.stores.specs.declared.question.Question.{Question}
 use Rattle.stores.specs.Fits.{fits}
-use Rattle.stores.specs.Meaning.{Meaning, holding}
+use Rattle.stores.specs.Meaning.{Meaning, holding, wiped}
 use Rattle.walks.specs.declared.action.Action.{Action}
 use Rattle.walks.specs.Bytes.{spelled_in}
 use Rattle.walks.specs.Rows.{key_width, Cell, Entry, StoreRow, action, leads_to}
-use Rattle.compiler.specs.declared.actions.Actions.{Actions}
-use Rattle.compiler.specs.declared.bytes.Bytes.{Bytes}
+use Rattle.graph_reader.specs.Encoding.{four}
 use Rattle.compiler.specs.declared.start.Start.{Start}
-
--- the actions, and the bytes, that a count names
-abbrev pub actions_of : Actions → List Action
-actions_of a = take a.count a.list
-
-abbrev pub bytes_of : Bytes → List ℕ
-bytes_of b = take b.count b.list
+use Rattle.compiler.specs.declared.sink.Sink as lent
+use Rattle.compiler.specs.Held.{held}
 
 -- a row as the questions that it fits, and its action
 pub record Line : Type 0 where
@@ -40,9 +35,27 @@ sunk s rs =
     sink (holding s.meaning (s.meaning.rows ++ map (λ (r : Line). r.fits) rs) (s.meaning.takes - length rs)) (s.actions ++ map (λ (r : Line). r.action) rs)
 
 -- both have room for so many rows
-pub record Room {X : Type 0} (m : Meaning) (acts : List Action) (rows : List X) : Type 0 where
-  pub taken : length rows ≤ m.takes
-  pub beside : length acts + length rows ≤ 512
+pub record Room {X : Type 0} (s : Sink) (rows : List X) : Type 0 where
+  pub taken : length rows ≤ s.meaning.takes
+  pub beside : length s.actions + length rows ≤ 512
+
+-- what a lent store means, and the lent actions
+abbrev pub sink_of : {S : Type 0} → (S → Meaning) → lent.Sink S → Sink
+sink_of meaning s = sink (meaning s.store.now) (held s.actions.now)
+
+-- store and actions are still those that were lent, and hold this now
+pub record Becomes {S : Type 0} (meaning : S → Meaning) (a b : lent.Sink S) (s : Sink) : Type 0 where
+  pub store : b.store.ghost_name ≡ a.store.ghost_name
+  pub actions : b.actions.ghost_name ≡ a.actions.ghost_name
+  pub after : sink_of meaning b ≡ s
+
+-- no rows and no actions
+abbrev pub Emptied : {S : Type 0} → (S → Meaning) → lent.Sink S → lent.Sink S → Type 0
+Emptied meaning a b = Becomes meaning a b (sink (wiped (meaning a.store.now)) [])
+
+-- these rows behind the others
+abbrev pub Filled : {S : Type 0} → (S → Meaning) → lent.Sink S → lent.Sink S → List Line → Type 0
+Filled meaning a b rs = Becomes meaning a b (sunk (sink_of meaning a) rs)
 
 -- Rows that are begun
 
@@ -53,7 +66,7 @@ fits_by s values masks q = q.state.number == s && bit_and q.key (spelled_in key_
 -- the first part of a row goes on with these cells and this action
 abbrev pub line_on : Start → List Cell → Action → Line
 line_on p cs a = record {
-  fits = fits_by p.state.number (bytes_of p.value ++ map (λ (c : Cell). c.value) cs) (bytes_of p.mask ++ map (λ (c : Cell). c.mask) cs);
+  fits = fits_by p.state.number (held p.value ++ map (λ (c : Cell). c.value) cs) (held p.mask ++ map (λ (c : Cell). c.mask) cs);
   action = action (p.beyond + a.beyond) a.target;
 }
 
@@ -62,7 +75,7 @@ line_as p e = line_on p e.cells e.action
 
 -- the first part is the whole row
 abbrev pub fits_start : Start → Question → Bool
-fits_start p = fits_by p.state.number (bytes_of p.value) (bytes_of p.mask)
+fits_start p = fits_by p.state.number (held p.value) (held p.mask)
 
 abbrev pub line_with : Start → Option Target → Line
 line_with p t = record { fits = fits_start p; action = action p.beyond t }
@@ -74,6 +87,13 @@ leads_on (c ∷ cs) t = leads_to c t
 
 -- a node and the chain behind it fit behind the first part of a row
 pub record Ready (cs : List ℕ) (p : Start) : Type 0 where
-  pub values : p.value.count + 4 * length cs ≤ 12
-  pub masks : p.mask.count + 4 * length cs ≤ 12
+  pub values : length (held p.value) + 4 * length cs ≤ 12
+  pub masks : length (held p.mask) + 4 * length cs ≤ 12
   pub beyond : p.beyond + length cs ≤ 3
+
+-- r is p with the lookup bytes of a piece behind it, w of them, and k headers more are passed
+pub record Longer (p r : Start) (w : ℕ) (q : TernaryRow) (k : ℕ) : Type 0 where
+  pub value : held r.value ≡ held p.value ++ take w (four q.value)
+  pub mask : held r.mask ≡ held p.mask ++ take w (four q.mask)
+  pub state : r.state ≡ p.state
+  pub beyond : r.beyond ≡ p.beyond + k

@@ -4,24 +4,20 @@ ghost use Rattle.refusals.specs.Searching.{fault_of, unless};
 ghost use Rattle.refusals.specs.Least.{Answers};
 ghost use Rattle.headers.specs.Table.{minimum_in, standard_table};
 ghost use Rattle.graphs.specs.View.{graph_view};
-ghost use Rattle.stores.specs.Meaning.{wiped};
-ghost use Rattle.walks.specs.Rows.{store_rows};
+ghost use Rattle.compiler.specs.Filled.{all_rows};
 ghost use Rattle.walks.specs.Plans.{store_count};
 ghost use Rattle.plans.specs.Chains.{chain_of};
 ghost use Rattle.compiler.specs.Faults.{of_load};
 ghost use Rattle.compiler.specs.Programs.{Stands};
 ghost use Rattle.compiler.specs.Loading.{roomy, LoadApplies, storing, Loaded, Kept, Loadable};
 
-use crate::actions::{Actions, ROWS};
+use crate::checked::Checked;
 use crate::fault::LoadFault;
-use crate::fill::fill;
-use crate::program::{Program, heads_of};
+use crate::program::{Program, ROWS, heads_of};
+use crate::sink::Sink;
 use graph_reader::read::read_graph_by;
-use graphs::graph::Graph;
 use headers::table::KindTable;
-use plans::chains::Chains;
 use plans::count::row_count;
-use plans::nodes::node_total;
 use plans::read::read_plan;
 use stores::fault::StoreFault;
 use stores::store::Store;
@@ -57,16 +53,9 @@ pub fn compile_by<S: Store>(
     Ok(())
 }
 
-// A graph and a plan that may be loaded.
-#[derive(Clone, Copy)]
-struct Checked {
-    graph: Graph,
-    chains: Chains,
-}
-
 // The graph of the file and the chains of the plan. Refused by 1 to 9.
 fn check(table: &KindTable, file: &[u8], plan: &[u8], capacity: u16) -> Result<Checked, LoadFault>
-    ensures { Answers of_load (LoadApplies (minimum_in table.now) file.now plan.now capacity) (λ checked. Loadable (minimum_in table.now) file.now plan.now capacity checked.graph checked.chains) result }
+    ensures { Answers of_load (LoadApplies (minimum_in table.now) file.now plan.now capacity) (λ checked. Loadable (minimum_in table.now) file.now plan.now capacity checked) result }
 {
     let graph = read_graph_by(table, file)?;
     let chains = read_plan(&graph, plan)?;
@@ -90,22 +79,13 @@ fn load<S: Store>(checked: &Checked, store: &mut S, program: &mut Program) -> Re
     requires room { store_count (graph_view checked.now.graph) (chain_of checked.now.chains) ≤ (S.Store.meaning store.old).capacity }
     requires past { (n : ℕ) → length (graph_view checked.now.graph) ≤ n → chain_of checked.now.chains n ≡ [] }
     ensures answered { result ≡ Ok tt }
-    ensures rows { S.Store.meaning store.new ≡ storing (S.Store.meaning store.old) (store_rows (graph_view checked.now.graph) (chain_of checked.now.chains)) }
+    ensures rows { S.Store.meaning store.new ≡ storing (S.Store.meaning store.old) (all_rows checked.now) }
     ensures stands { Stands program.new (graph_view checked.now.graph) (chain_of checked.now.chains) }
 {
-    empty(store, &mut program.actions);
-    fill(store, &mut program.actions, &checked.graph, &checked.chains)?;
-    program.count = node_total(&checked.graph);
-    let heads = heads_of(&checked.graph, &checked.chains);
-    program.heads = heads;
+    let actions = &mut program.actions;
+    let mut sink = Sink { store, actions };
+    sink.empty();
+    sink.fill(checked)?;
+    program.heads = heads_of(checked);
     Ok(())
-}
-
-// Leaves no rows in the store, and no actions.
-fn empty<S: Store>(store: &mut S, actions: &mut Actions)
-    ensures rows { S.Store.meaning store.new ≡ wiped (S.Store.meaning store.old) }
-    ensures actions { actions.new.count ≡ 0 }
-{
-    store.wipe();
-    actions.clear();
 }

@@ -20,22 +20,17 @@ pub enum LoadFault {
     Store(StoreFault),
 }
 
-impl LoadFault {
-    /// The fault's number, layer and place.
-    pub fn refusal(self) -> Refusal
-        ensures { result ≡ of_load self }
-    {
-        match self {
-            LoadFault::File(fault) => fault.refusal(),
-            LoadFault::Graph(fault) => fault.refusal(),
-            LoadFault::Plan(fault) => fault.refusal(),
-            LoadFault::TooMany { rows } => Refusal {
-                number: 9,
-                layer: Layer::Store,
-                first: rows,
-                second: 0,
-            },
-            LoadFault::Store(fault) => fault.refusal(),
+/// The fault's number, layer and place.
+impl From<LoadFault> for Refusal {
+    ghost from_gives = { λ fault refusal. refusal ≡ of_load fault };
+
+    fn from(fault: LoadFault) -> Refusal {
+        match fault {
+            LoadFault::File(fault) => Refusal::from(fault),
+            LoadFault::Graph(fault) => Refusal::from(fault),
+            LoadFault::Plan(fault) => Refusal::from(fault),
+            LoadFault::TooMany { rows } => Refusal::at(9, Layer::Store, rows, 0),
+            LoadFault::Store(fault) => Refusal::from(fault),
         }
     }
 }

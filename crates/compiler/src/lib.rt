@@ -2,13 +2,14 @@
 
 #![tactic(auto)]
 
-pub mod actions;
-mod bytes;
+mod checked;
 pub mod compile;
 mod cursor;
 mod emit;
 pub mod fault;
+pub mod few;
 mod fill;
 mod pieces;
 pub mod program;
+mod sink;
 mod start;

@@ -2,14 +2,19 @@
 ghost use Rattle.std.specs.Prelude.{◌≡◌, ℕ, ◌<◌, [], length, slice_index_or};
 ghost use Rattle.graphs.specs.View.{graph_view};
 ghost use Rattle.plans.specs.Chains.{chain_of};
+ghost use Rattle.compiler.specs.Held.{held};
 ghost use Rattle.compiler.specs.Programs.{no_head, HeadOf, Stands};
 
-use crate::actions::Actions;
-use graphs::graph::{Graph, Length, NODES, PLACES};
+use crate::checked::Checked;
+use crate::few::Few;
+use graphs::graph::{Length, NODES, PLACES};
 use headers::kinds::Kind;
-use plans::chains::{Chain, Chains};
-use plans::nodes::node_at;
+use plans::chains::Chain;
 use plans::window::window;
+use walks::action::Action;
+
+/// The most rows of a graph and a plan.
+pub const ROWS: usize = 512;
 
 /// A node without its rows: its kind, length rule and lookup places, its chain, and the bytes that
 /// node and chain take from a packet.
@@ -17,19 +22,17 @@ use plans::window::window;
 pub struct Head {
     pub kind: Kind,
     pub length: Length,
-    pub place_count: u8,
-    pub places: [u8; PLACES],
+    pub places: Few<u8, PLACES>,
     pub chain: Chain,
     pub window: u16,
 }
 
-/// What a reader keeps of a graph and a plan: how many nodes there are, each without its rows, and the
-/// actions beside the rows of the store.
+/// What a reader keeps of a graph and a plan: the nodes, each without its rows, and the actions beside
+/// the rows of the store, in the order of the rows.
 #[derive(Clone, Copy)]
 pub struct Program {
-    pub count: u8,
-    pub heads: [Head; NODES],
-    pub actions: Actions,
+    pub heads: Few<Head, NODES>,
+    pub actions: Few<Action, ROWS>,
 }
 
 impl Program {
@@ -38,9 +41,11 @@ impl Program {
         ensures { Stands result [] (λ n. []) }
     {
         Program {
-            count: 0,
-            heads: [Head::none(); NODES],
-            actions: Actions::none(),
+            heads: Few::new(Head::none()),
+            actions: Few::new(Action {
+                beyond: 0,
+                target: None,
+            }),
         }
     }
 }
@@ -53,24 +58,24 @@ impl Head {
         Head {
             kind: Kind::Ethernet,
             length: Length::Fixed(0),
-            place_count: 0,
-            places: [0; PLACES],
+            places: Few::new(0),
             chain: Chain::none(),
             window: 0,
         }
     }
 
     // Node n of a graph, with its chain.
-    fn of(graph: &Graph, chains: &Chains, node: u8) -> Head
-        ensures { HeadOf (graph_view graph.now) (chain_of chains.now) node result }
+    fn of(checked: &Checked, node: u8) -> Head
+        ensures { HeadOf (graph_view checked.now.graph) (chain_of checked.now.chains) node result }
     {
-        let here = node_at(graph, node);
-        let places = here.places;
-        let chain = chains.chain(node);
+        let graph = &checked.graph;
+        let here = graph.node(node);
+        let mut places = Few::new(0);
+        places.extend_from_slice(here.lookup());
+        let chain = checked.chains.chain(node);
         Head {
             kind: here.kind,
             length: here.length,
-            place_count: here.place_count,
             places,
             chain,
             window: window(graph, node, &chain),
@@ -78,14 +83,14 @@ impl Head {
     }
 }
 
-// The nodes of a graph, each with its chain, and what stands for no node behind them.
-pub(crate) fn heads_of(graph: &Graph, chains: &Chains) -> [Head; NODES]
-    ensures each { (n : ℕ) → n < 32 → HeadOf (graph_view graph.now) (chain_of chains.now) n (slice_index_or result n no_head) }
-    ensures whole { length result ≡ 32 }
+// The nodes of a graph, each with its chain.
+pub(crate) fn heads_of(checked: &Checked) -> Few<Head, NODES>
+    ensures each { (n : ℕ) → n < length (held result) → HeadOf (graph_view checked.now.graph) (chain_of checked.now.chains) n (slice_index_or (held result) n no_head) }
+    ensures count { length (held result) ≡ length (graph_view checked.now.graph) }
 {
-    let mut heads = [Head::none(); NODES];
-    for n in 0..32u8 {
-        heads[n as usize] = Head::of(graph, chains, n);
+    let mut heads = Few::new(Head::none());
+    for n in 0..checked.graph.size() {
+        heads.push(Head::of(checked, n));
     }
     heads
 }

@@ -1,6 +1,6 @@
 // Kinds, fields and payloads.
 use headers::faults::PartFault;
-use headers::kinds::Kind;
+use headers::kinds::{Kind, UnknownKind};
 use headers::mark::Mark;
 use headers::part::{field, payload};
 use headers::table::{FieldPlace, KindTable};
@@ -25,9 +25,10 @@ const KINDS: [(u8, Kind, u8, usize, [(u8, u8); 4]); 11] = [
 fn kinds_are_as_the_standards_say(rt: HostRuntime) {
     let table = KindTable::standard();
     for (number, kind, minimum, count, places) in KINDS {
-        assert_eq!(rt; kind.number(), number);
-        assert_eq!(rt; Kind::from_number(number), Some(kind));
+        assert_eq!(rt; u8::from(kind), number);
+        assert_eq!(rt; Kind::try_from(number), Ok(kind));
         assert_eq!(rt; table.minimum(kind), minimum);
+        // `take(count)`, before `enumerate` or after it, was tried: its proof does not close.
         for (i, (offset, length)) in places.iter().enumerate() {
             if i < count {
                 let place = FieldPlace {
@@ -39,7 +40,7 @@ fn kinds_are_as_the_standards_say(rt: HostRuntime) {
         }
         assert_eq!(rt; table.field(kind, count), None);
     }
-    assert_eq!(rt; Kind::from_number(11), None);
+    assert_eq!(rt; Kind::try_from(11), Err(UnknownKind { number: 11 }));
 }
 
 // No two bytes are the same, so a part's first byte tells its place: C is at 12, Q at 26, o at 50.
@@ -70,11 +71,7 @@ fn fields_are_parts_of_the_packet(rt: HostRuntime) {
             offset,
             length: 0,
         };
-        let found = match field(PACKET, &mark, number) {
-            Ok(Some(part)) => Ok(Some(first_and_length(part))),
-            Ok(None) => Ok(None),
-            Err(fault) => Err(fault),
-        };
+        let found = field(PACKET, &mark, number).map(|part| part.map(first_and_length));
         assert_eq!(rt; found, expected);
     }
 }
@@ -90,10 +87,7 @@ const PAYLOADS: [(usize, Result<(u8, usize), PartFault>); 4] = [
 #[test]
 fn payloads_run_to_the_end(rt: HostRuntime) {
     for (from, expected) in PAYLOADS {
-        let found = match payload(PACKET, from) {
-            Ok(part) => Ok(first_and_length(part)),
-            Err(fault) => Err(fault),
-        };
+        let found = payload(PACKET, from).map(first_and_length);
         assert_eq!(rt; found, expected);
     }
 }
@@ -107,12 +101,7 @@ const REFUSALS: [(PartFault, Layer); 3] = [
 #[test]
 fn parts_are_refused_by_17(rt: HostRuntime) {
     for (fault, layer) in REFUSALS {
-        let refusal = Refusal {
-            number: 17,
-            layer,
-            first: 0,
-            second: 0,
-        };
-        assert_eq!(rt; fault.refusal(), refusal);
+        let refusal = Refusal::new(17, layer);
+        assert_eq!(rt; Refusal::from(fault), refusal);
     }
 }

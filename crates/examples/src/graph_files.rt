@@ -8,21 +8,9 @@ use patterns::row::Target;
 use refusals::refusal::{Layer, Refusal};
 use std::test::Fail;
 
-fn refusal(number: u8, layer: Layer, first: u16, second: u16) -> Refusal {
-    Refusal {
-        number,
-        layer,
-        first,
-        second,
-    }
-}
-
 // What a file is refused for.
 fn refused(file: &[u8]) -> Option<Refusal> {
-    match read_graph(file) {
-        Ok(_) => None,
-        Err(fault) => Some(fault.refusal()),
-    }
+    read_graph(file).err().map(Refusal::from)
 }
 
 // A byte of the four-node file and another value for it; the number, layer and place that it is refused by.
@@ -60,13 +48,16 @@ const DAMAGED: [(usize, u8, u8, Layer, u16, u16); 28] = [
 #[test]
 fn damaged_files_are_refused_at_their_place(rt: HostRuntime) {
     assert_eq!(rt; refused(&FOUR_NODES), None);
-    assert_eq!(rt; refused(&[]), Some(refusal(1, Layer::File, 0, 0)));
+    assert_eq!(rt; refused(&[]), Some(Refusal::new(1, Layer::File)));
     for (place, byte, number, layer, first, second) in DAMAGED {
         let mut file = FOUR_NODES;
         if place < file.len() {
             file[place] = byte;
         }
-        assert_eq!(rt; refused(&file), Some(refusal(number, layer, first, second)));
+        assert_eq!(rt;
+            refused(&file),
+            Some(Refusal::at(number, layer, first, second))
+        );
     }
 }
 
@@ -76,14 +67,14 @@ fn a_row_behind_the_catch_all_is_covered(rt: HostRuntime) {
     let mut file = FOUR_NODES;
     file[34..44].copy_from_slice(&FOUR_NODES[54..64]);
     file[44..64].copy_from_slice(&FOUR_NODES[34..54]);
-    assert_eq!(rt; refused(&file), Some(refusal(5, Layer::Graph, 0, 1)));
+    assert_eq!(rt; refused(&file), Some(Refusal::at(5, Layer::Graph, 0, 1)));
     // Both rows of the other file: 0 to 0x05ff, then 0x0100 to 0x0200.
     let mut ranges = RANGES;
     ranges[32..36].copy_from_slice(&[1, 0, 2, 0]);
-    assert_eq!(rt; refused(&ranges), Some(refusal(5, Layer::Graph, 0, 1)));
+    assert_eq!(rt; refused(&ranges), Some(Refusal::at(5, Layer::Graph, 0, 1)));
     // Low above high, told at the first byte of low.
     ranges[34] = 0;
-    assert_eq!(rt; refused(&ranges), Some(refusal(3, Layer::File, 0, 26)));
+    assert_eq!(rt; refused(&ranges), Some(Refusal::at(3, Layer::File, 0, 26)));
 }
 
 // Node, key and target of the four-node graph: the key's upper bytes are the lookup bytes.
@@ -124,7 +115,7 @@ fn a_copy_is_the_same_file(rt: HostRuntime) -> Result<(), Fail> {
             Ok(())
         },
         Err(fault) => {
-            assert_eq!(rt; fault.refusal(), refusal(11, Layer::Writing, 0, 0));
+            assert_eq!(rt; Refusal::from(fault), Refusal::new(11, Layer::Writing));
             Ok(())
         },
     }
@@ -133,10 +124,7 @@ fn a_copy_is_the_same_file(rt: HostRuntime) -> Result<(), Fail> {
 // What writing the graph is refused for.
 fn unwritten(rt: &HostRuntime, graph: &Graph) -> Result<Option<Refusal>, Fail> {
     let mut area = vec![in rt.alloc(); 0; 5762]?;
-    match write_graph(graph, &mut area) {
-        Ok(_) => Ok(None),
-        Err(fault) => Ok(Some(fault.refusal())),
-    }
+    Ok(write_graph(graph, &mut area).err().map(Refusal::from))
 }
 
 #[test]
@@ -145,24 +133,24 @@ fn an_unsound_graph_is_not_written(rt: HostRuntime) -> Result<(), Fail> {
     assert_eq!(rt; unwritten(&rt, &sound)?, None);
     let mut many = sound;
     many.count = 33;
-    assert_eq!(rt; unwritten(&rt, &many)?, Some(refusal(1, Layer::File, 0, 0)));
+    assert_eq!(rt; unwritten(&rt, &many)?, Some(Refusal::new(1, Layer::File)));
     let mut places = sound;
     places.nodes[0].place_count = 5;
     assert_eq!(rt;
         unwritten(&rt, &places)?,
-        Some(refusal(3, Layer::File, 0, 8))
+        Some(Refusal::at(3, Layer::File, 0, 8))
     );
     let mut rows = sound;
     rows.nodes[1].row_count = 17;
     assert_eq!(rt;
         unwritten(&rt, &rows)?,
-        Some(refusal(3, Layer::File, 1, 14))
+        Some(Refusal::at(3, Layer::File, 1, 14))
     );
     let mut short = sound;
     short.nodes[0].length = Length::Fixed(13);
     assert_eq!(rt;
         unwritten(&rt, &short)?,
-        Some(refusal(6, Layer::Graph, 0, 0))
+        Some(Refusal::at(6, Layer::Graph, 0, 0))
     );
     Ok(())
 }

@@ -48,7 +48,7 @@ record_parts v = simp append_assoc
 pub places_length : (ps : List ℕ) → length (place_bytes ps) ≡ 4
 places_length ps = length-take-le 4 (ps ++ 0 ∷ 0 ∷ 0 ∷ 0 ∷ []) (omega (arith, length-append ps (0 ∷ 0 ∷ 0 ∷ 0 ∷ [])))
 
-length_of : (l : Length) (xs : List ℕ) → length (length_bytes l ++ xs) ≡ 7 + length xs
+pub length_of : (l : Length) (xs : List ℕ) → length (length_bytes l ++ xs) ≡ 7 + length xs
 length_of (Fixed n) xs = omega arith
 length_of (Counted place mask shift unit base) xs = omega arith
 
@@ -57,7 +57,7 @@ head_length v =
     let rest = sort_byte v.rows ∷ row_count v.rows ∷ 0 ∷ [] in
     omega (arith, length_of v.len (length v.places ∷ (place_bytes v.places ++ rest)), length-append (place_bytes v.places) rest, places_length v.places)
 
-rows_length : (v : RowsView) → length (row_bytes v) ≡ 10 * row_count v
+pub rows_length : (v : RowsView) → length (row_bytes v) ≡ 10 * row_count v
 rows_length (ternary_rows rs) = joined_length ternary_bytes ternary_length rs
 rows_length (range_rows rs) = joined_length range_bytes range_length rs
 

@@ -1,7 +1,8 @@
 -- What reading tells of a file is its least fault.
+use Rattle.std.specs.Option.{option_or, option_map}
 use Rattle.std.proofs.Common.{◌≡◌, ℕ, ◌+◌, ◌<◌, ◌≤◌, false, eqb, ltb, ◌⊎◌, List, length, Some, None, Option, Result, sym, refl, ap, ◌∙◌, subst, ap₂, inl, inr, arith}
 use Rattle.std.proofs.lemmas.Bool.{and_cases, or_cases, or_parts, cases_Bool, leb-false, ltb-true, ltb-false, eqb-true, eqb-false}
-use Rattle.refusals.specs.Searching.{or_else, first_told, unless, wrapped, unless_fault}
+use Rattle.refusals.specs.Searching.{first_told, unless, unless_fault}
 use Rattle.refusals.specs.Least.{rank, NotAfter, Answers}
 use Rattle.refusals.proofs.Searching.{or_else_none, wrapped_none}
 use Rattle.refusals.proofs.Lowest.{Lowest, lowest_like, lowest_or, lowest_of, lowest_unless, lowest_wrapped, lower}
@@ -92,7 +93,7 @@ module _ (r : ℕ → List ℕ) where
   abbrev pub ByteTold : ℕ → FileFault → Type 0
   ByteTold k e = (n : ℕ) × (0 ≤ n) × (n < 0 + k) × RecordTold n e
 
-  record_lowest : (n : ℕ) → Lowest before (RecordTold n) (wrapped (Byte n) (first_wrong (r n)))
+  record_lowest : (n : ℕ) → Lowest before (RecordTold n) (option_map (Byte n) (first_wrong (r n)))
   record_lowest n =
       lowest_wrapped before (Byte n) (λ x. (b : ℕ) × (0 ≤ b) × (b < 0 + length (r n)) × ((x ≡ b) × (right (r n) b ≡ false))) (first_wrong (r n))
       (lowest_of (λ x y. before (Byte n x) (Byte n y)) (λ b x. (x ≡ b) × (right (r n) b ≡ false)) (λ b. unless (right (r n) b) b)
@@ -100,9 +101,9 @@ module _ (r : ℕ → List ℕ) where
       (λ i j x y l p q. inr (refl, inr (refl, omega (arith, p.0, q.0))))
       (length (r n)) 0)
 
-  pub bytes_lowest : (k : ℕ) → Lowest before (ByteTold k) (first_told (λ n. wrapped (Byte n) (first_wrong (r n))) 0 k)
+  pub bytes_lowest : (k : ℕ) → Lowest before (ByteTold k) (first_told (λ n. option_map (Byte n) (first_wrong (r n))) 0 k)
   bytes_lowest k =
-      lowest_of before RecordTold (λ n. wrapped (Byte n) (first_wrong (r n))) record_lowest
+      lowest_of before RecordTold (λ n. option_map (Byte n) (first_wrong (r n))) record_lowest
       (λ i j e d l p q. subst (λ e. NotAfter (of_file e) (of_file d)) (sym p.1) (subst (λ d. NotAfter (of_file (Byte i p.0)) (of_file d)) (sym q.1) (inr (refl, inl l))))
       k 0
 
@@ -145,7 +146,7 @@ module _ (f : List ℕ) where
         | inl w ↦ lower (of_file e) (of_file d) 1 2 (ap (λ x. (of_file x).number) p.0) (ap (λ x. (of_file x).number) w.3.0) (omega arith)
         | inr w ↦ lower (of_file e) (of_file d) 1 3 (ap (λ x. (of_file x).number) p.0) (ap (λ x. (of_file x).number) w.3.1) (omega arith)
       ])
-      (shape_fault f) (or_else (pair_fault f) (byte_fault f))
+      (shape_fault f) (option_or (pair_fault f) (byte_fault f))
       (lowest_unless before (shape_right f) Shape (inr (refl, inr (refl, omega arith))))
       (lowest_or before PairTold FileBytes
       (λ e d p q. lower (of_file e) (of_file d) 2 3 (ap (λ x. (of_file x).number) p.3.0) (ap (λ x. (of_file x).number) q.3.1) (omega arith))
@@ -193,15 +194,15 @@ module _ (minimum : Kind → ℕ) (f : List ℕ) where
       lowest_like order (λ e. InFile e ⊎ InGraph e) (Applies minimum f) into out (read_fault minimum f)
       (lowest_or order InFile InGraph
       (λ e d p q. subst (λ e. order e d) (sym p.1) (subst (order (File p.0)) (sym q.1) (file_below p.0 q.0)))
-      (wrapped File (file_fault f)) (wrapped Graph (graph_fault minimum (nodes_in f)))
+      (option_map File (file_fault f)) (option_map Graph (graph_fault minimum (nodes_in f)))
       (lowest_wrapped order File (FileApplies f) (file_fault f) (file_lowest f))
       (lowest_wrapped order Graph (GraphApplies minimum (nodes_in f)) (graph_fault minimum (nodes_in f)) (graph_lowest minimum (nodes_in f))))
 
   -- no fault: none of its parts
   pub clear : read_fault minimum f ≡ None → (shape_fault f ≡ None) × (pair_fault f ≡ None) × (byte_fault f ≡ None)
   clear e =
-      let a = wrapped_none File (file_fault f) (or_else_none (wrapped File (file_fault f)) (wrapped Graph (graph_fault minimum (nodes_in f))) e).0 in
-      let b = or_else_none (shape_fault f) (or_else (pair_fault f) (byte_fault f)) a in
+      let a = wrapped_none File (file_fault f) (or_else_none (option_map File (file_fault f)) (option_map Graph (graph_fault minimum (nodes_in f))) e).0 in
+      let b = or_else_none (shape_fault f) (option_or (pair_fault f) (byte_fault f)) a in
       let c = or_else_none (pair_fault f) (byte_fault f) b.1 in
       (b.0, c.0, c.1)
 
@@ -217,7 +218,7 @@ module _ (minimum : Kind → ℕ) (f : List ℕ) where
 
 -- a file that numbers 1 to 3 do not refuse is answered by what is told of its graph
 pub reading_graph : (minimum : Kind → ℕ) (f : List ℕ) → None ≡ shape_fault f → None ≡ pair_fault f → None ≡ byte_fault f
-    → (vs : List NodeView) → vs ≡ nodes_in f → (o : Option GraphFault) → o ≡ graph_fault minimum vs → unless_fault (wrapped Graph o) vs ≡ reading minimum f
+    → (vs : List NodeView) → vs ≡ nodes_in f → (o : Option GraphFault) → o ≡ graph_fault minimum vs → unless_fault (option_map Graph o) vs ≡ reading minimum f
 reading_graph minimum f a b c vs v o e =
-    ap₂ (λ x y. unless_fault (wrapped Graph x) y) (e ∙ ap (graph_fault minimum) v) v
-    ∙ ap (λ x. unless_fault (or_else (wrapped File x) (wrapped Graph (graph_fault minimum (nodes_in f)))) (nodes_in f)) (c ∙ ap (λ x. or_else x (byte_fault f)) b ∙ ap (λ x. or_else x (or_else (pair_fault f) (byte_fault f))) a)
+    ap₂ (λ x y. unless_fault (option_map Graph x) y) (e ∙ ap (graph_fault minimum) v) v
+    ∙ ap (λ x. unless_fault (option_or (option_map File x) (option_map Graph (graph_fault minimum (nodes_in f)))) (nodes_in f)) (c ∙ ap (λ x. option_or x (byte_fault f)) b ∙ ap (λ x. option_or x (option_or (pair_fault f) (byte_fault f))) a)

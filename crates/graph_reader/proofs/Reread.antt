@@ -1,10 +1,11 @@
 -- The encoding of a sound graph is read as the same graph.
+use Rattle.std.specs.Option.{option_map}
 use Rattle.std.proofs.Common.{◌≡◌, ℕ, zero, suc, ◌+◌, ◌-◌, ◌*◌, ◌/◌, ◌%◌, ◌<◌, ◌≤◌, true, cond, ◌||◌, eqb, ltb, List, [], ◌∷◌, ◌++◌, length, get_or, take, drop, None, Ok, sym, refl, ap, ◌∙◌, subst, ap₂, inl, inr, add-zero, arith}
 use Rattle.std.specs.List.{flat_map}
 use Rattle.std.proofs.lemmas.Bool.{and_from, and_parts, le-leb, leb-true, eq-eqb, ne_eqb, lt-ltb, or_left, or_right, cond-false, cases_lt}
 use Rattle.std.proofs.lemmas.List.{get_or-append_right, get_or-take, get_or-drop, take-take, take_at, take_all}
 use Rattle.std.proofs.lemmas.List.FromFn.{fill_by_all}
-use Rattle.refusals.specs.Searching.{wrapped, unless}
+use Rattle.refusals.specs.Searching.{unless}
 use Rattle.refusals.proofs.Searching.{none_of, holds}
 use Rattle.headers.specs.declared.kinds.Kind.{Kind}
 use Rattle.headers.specs.declared.kinds.Kind.TheVariants.{Ethernet}
@@ -227,7 +228,7 @@ module _ (vs : List NodeView) (some : 1 ≤ length vs) (few : length vs ≤ 32) 
         (and_from _ _ (le-leb _ _ within) (and_from _ _ (eq-eqb _ _ counted) last)))
 
     record_clear : record_fault file i ≡ None
-    record_clear = ap (λ r. wrapped (Byte i) (first_wrong r)) (record_is vs i blank h) ∙ ap (wrapped (Byte i)) (sound i h)
+    record_clear = ap (λ r. option_map (Byte i) (first_wrong r)) (record_is vs i blank h) ∙ ap (option_map (Byte i)) (sound i h)
 
   pairs_clear : pair_fault file ≡ None
   pairs_clear = none_of (λ i. unless (pair_right file i) (Pair i)) (length vs) 0 (λ i l m. ap (λ t. unless t (Pair i)) (pair_right_lem i (omega arith)))

@@ -1,9 +1,10 @@
 -- The file as a whole: its shape, its pairs and the records that they name.
+use Rattle.std.specs.Option.{option_or, option_map}
 use Rattle.std.specs.Prelude.{ℕ, ◌+◌, ◌-◌, ◌*◌, Bool, cond, ◌&&◌, ◌||◌, List, length, take, drop, Option, ◌==◌, nat_le, nat_lt}
 use Rattle.graph_reader.specs.declared.fault.FileFault.{FileFault}
 use Rattle.graph_reader.specs.declared.fault.FileFault.TheVariants.{Shape, Pair, Byte}
 use Rattle.graph_reader.specs.Records.{at, at2, right}
-use Rattle.refusals.specs.Searching.{or_else, first_told, unless, wrapped}
+use Rattle.refusals.specs.Searching.{first_told, unless}
 
 -- 2 to 5,762 bytes, 1 to 32 nodes, then a zero
 abbrev pub shape_right : List ℕ → Bool
@@ -46,10 +47,10 @@ abbrev pub pair_fault : List ℕ → Option FileFault
 pair_fault f = first_told (λ i. unless (pair_right f i) (Pair i)) 0 (at f 0)
 
 abbrev pub record_fault : List ℕ → ℕ → Option FileFault
-record_fault f n = wrapped (Byte n) (first_wrong (record_at f n))
+record_fault f n = option_map (Byte n) (first_wrong (record_at f n))
 
 abbrev pub byte_fault : List ℕ → Option FileFault
 byte_fault f = first_told (record_fault f) 0 (at f 0)
 
 abbrev pub file_fault : List ℕ → Option FileFault
-file_fault f = or_else (shape_fault f) (or_else (pair_fault f) (byte_fault f))
+file_fault f = option_or (shape_fault f) (option_or (pair_fault f) (byte_fault f))

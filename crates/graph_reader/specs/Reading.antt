@@ -1,6 +1,7 @@
 -- What reading a file answers.
+use Rattle.std.specs.Option.{option_or, option_map}
 use Rattle.std.specs.Prelude.{ℕ, List, Ok, Err, Option, Result}
-use Rattle.refusals.specs.Searching.{or_else, wrapped, unless_fault}
+use Rattle.refusals.specs.Searching.{unless_fault}
 use Rattle.headers.specs.declared.kinds.Kind.{Kind}
 use Rattle.graphs.specs.declared.graph.Graph.{Graph as GraphT}
 use Rattle.graphs.specs.View.{NodeView, graph_view}
@@ -18,7 +19,7 @@ seen (Err e) = Err e
 module _ (minimum : Kind → ℕ) where
   -- the first fault of a file, by number
   abbrev pub read_fault : List ℕ → Option ReadFault
-  read_fault f = or_else (wrapped File (file_fault f)) (wrapped Graph (graph_fault minimum (nodes_in f)))
+  read_fault f = option_or (option_map File (file_fault f)) (option_map Graph (graph_fault minimum (nodes_in f)))
 
   -- the fault, or else the graph that the file says
   abbrev pub reading : List ℕ → Result (List NodeView) ReadFault

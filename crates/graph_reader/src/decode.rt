@@ -6,19 +6,17 @@ ghost use Rattle.graph_reader.specs.Files.{pair_fault, byte_fault};
 ghost use Rattle.headers.specs.Kinds.{kind_at};
 
 use crate::pairs::record_of;
-use crate::record::{number2, number4};
-use graphs::graph::{Graph, Length, Node, Rows};
+use crate::record::RowAt;
+use graphs::graph::{Graph, Length, NODES, Node, Rows};
 use headers::kinds::Kind;
 use patterns::row::{RangeRow, Target, TernaryRow};
+use std::array;
 
 // The kind of a number that is in its range.
 fn kind_at(number: u8) -> Kind
     ensures { result ≡ kind_at number }
 {
-    match Kind::from_number(number) {
-        Some(kind) => kind,
-        None => Kind::Other,
-    }
+    Kind::try_from(number).unwrap_or(Kind::Other)
 }
 
 fn length_in(bytes: &[u8]) -> Length
@@ -37,12 +35,11 @@ fn length_in(bytes: &[u8]) -> Length
     }
 }
 
-fn target_in(bytes: &[u8], o: usize) -> Target
-    requires { o + 10 ≤ length bytes.now }
-    ensures { result ≡ target_in bytes.now o }
+fn target_in(row: &RowAt) -> Target
+    ensures { result ≡ target_in row.now.bytes.now row.now.begin }
 {
-    match bytes[o + 8] {
-        0 => Target::Node(bytes[o + 9]),
+    match row.byte(8) {
+        0 => Target::Node(row.byte(9)),
         1 => Target::Done,
         _ => Target::Dropped,
     }
@@ -53,19 +50,18 @@ trait RowIn: Copy {
     // The row that the bytes from a place on say.
     ghost said: { List ℕ → ℕ → Self };
 
-    fn row_in(bytes: &[u8], o: usize) -> Self
-        requires { o + 10 ≤ length bytes.now }
-        ensures { result ≡ said bytes.now o };
+    fn row_in(row: &RowAt) -> Self
+        ensures { result ≡ said row.now.bytes.now row.now.begin };
 }
 
 impl RowIn for TernaryRow {
     ghost said = { ternary_in };
 
-    fn row_in(bytes: &[u8], o: usize) -> TernaryRow {
+    fn row_in(row: &RowAt) -> TernaryRow {
         TernaryRow {
-            value: number4(bytes, o),
-            mask: number4(bytes, o + 4),
-            target: target_in(bytes, o),
+            value: row.number4(0),
+            mask: row.number4(4),
+            target: target_in(row),
         }
     }
 }
@@ -73,44 +69,38 @@ impl RowIn for TernaryRow {
 impl RowIn for RangeRow {
     ghost said = { range_in };
 
-    fn row_in(bytes: &[u8], o: usize) -> RangeRow {
+    fn row_in(row: &RowAt) -> RangeRow {
         RangeRow {
-            low: number2(bytes, o),
-            high: number2(bytes, o + 2),
-            target: target_in(bytes, o),
+            low: row.number2(0),
+            high: row.number2(2),
+            target: target_in(row),
         }
     }
 }
 
-// The first n rows of a record; what stands behind them is the first row again.
-fn first_rows<R: RowIn>(bytes: &[u8], n: u8) -> [R; 16]
-    requires { (1 ≤ n) × ((n ≤ 16) × (length bytes.now ≡ 16 + 10 * n)) }
-    ensures { take n result ≡ each_row (R.said bytes.now) n }
+// The rows of a record; behind its last, what bytes of zero say.
+fn all_rows<R: RowIn>(bytes: &[u8]) -> [R; 16]
+    ensures { result ≡ each_row (R.said bytes.now) 16 }
 {
-    let mut rows = [R::row_in(bytes, 16); 16];
-    for k in 0..n {
-        rows[k as usize] = R::row_in(bytes, 16 + 10 * k as usize);
-    }
-    rows
+    array::from_fn(|k| R::row_in(&RowAt::new(bytes, k)))
 }
 
 fn rows_in(bytes: &[u8]) -> Rows
-    requires { (1 ≤ slice_index bytes.now 14) × ((slice_index bytes.now 14 ≤ 16) × (length bytes.now ≡ 16 + 10 * slice_index bytes.now 14)) }
+    requires { (16 ≤ length bytes.now) × (slice_index bytes.now 14 ≤ 16) }
     ensures { rows_view (slice_index bytes.now 14) result ≡ rows_in bytes.now }
 {
     if bytes[13] == 0 {
-        Rows::Ternary(first_rows::<TernaryRow>(bytes, bytes[14]))
+        Rows::Ternary(all_rows(bytes))
     } else {
-        Rows::Range(first_rows::<RangeRow>(bytes, bytes[14]))
+        Rows::Range(all_rows(bytes))
     }
 }
 
 // The node of a record.
 pub(crate) fn node_in(bytes: &[u8]) -> Node
-    requires some { 1 ≤ slice_index bytes.now 14 }
+    requires long { 16 ≤ length bytes.now }
     requires rows { slice_index bytes.now 14 ≤ 16 }
     requires places { slice_index bytes.now 8 ≤ 4 }
-    requires long { length bytes.now ≡ 16 + 10 * slice_index bytes.now 14 }
     ensures is { node_view result ≡ node_in bytes.now }
     ensures counts { NodeCounts result }
 {
@@ -124,22 +114,6 @@ pub(crate) fn node_in(bytes: &[u8]) -> Node
     }
 }
 
-// What stands behind the nodes that the count names.
-fn blank() -> Node {
-    Node {
-        kind: Kind::Other,
-        length: Length::Fixed(1),
-        place_count: 0,
-        places: [0; 4],
-        row_count: 0,
-        rows: Rows::Ternary([TernaryRow {
-            value: 0,
-            mask: 0,
-            target: Target::Done,
-        }; 16]),
-    }
-}
-
 // The graph of a file that numbers 1 to 3 do not refuse.
 pub(crate) fn graph_in(file: &[u8]) -> Graph
     requires begun { 2 ≤ length file.now }
@@ -149,9 +123,9 @@ pub(crate) fn graph_in(file: &[u8]) -> Graph
     ensures is { graph_view result ≡ nodes_in file.now }
     ensures counts { Counts result }
 {
-    let mut nodes = [blank(); 32];
-    for i in 0..file[0] {
-        nodes[i as usize] = node_in(record_of(file, i as usize));
+    let mut nodes = [Node::blank(); NODES];
+    for (i, node) in nodes[..file[0] as usize].iter_mut().enumerate() {
+        *node = node_in(record_of(file, i as u8));
     }
     Graph {
         count: file[0],

@@ -14,26 +14,15 @@ pub enum FileFault {
     Byte { node: u8, at: u16 },
 }
 
-impl FileFault {
-    /// The fault's number, layer and place.
-    pub fn refusal(self) -> Refusal
-        ensures { result ≡ of_file self }
-    {
-        match self {
-            FileFault::Shape => Self::at(1, 0, 0),
-            FileFault::Pair { pair } => Self::at(2, pair, 0),
-            FileFault::Byte { node, at } => Self::at(3, node, at),
-        }
-    }
+/// The fault's number, layer and place.
+impl From<FileFault> for Refusal {
+    ghost from_gives = { λ fault refusal. refusal ≡ of_file fault };
 
-    fn at(number: u8, first: u8, second: u16) -> Refusal
-        ensures { result ≡ record { number = number; layer = Layer.File; first = first; second = second } }
-    {
-        Refusal {
-            number,
-            layer: Layer::File,
-            first: first as u16,
-            second,
+    fn from(fault: FileFault) -> Refusal {
+        match fault {
+            FileFault::Shape => Refusal::new(1, Layer::File),
+            FileFault::Pair { pair } => Refusal::at(2, Layer::File, u16::from(pair), 0),
+            FileFault::Byte { node, at } => Refusal::at(3, Layer::File, u16::from(node), at),
         }
     }
 }
@@ -45,14 +34,14 @@ pub enum ReadFault {
     Graph(GraphFault),
 }
 
-impl ReadFault {
-    /// The fault's number, layer and place.
-    pub fn refusal(self) -> Refusal
-        ensures { result ≡ of_read self }
-    {
-        match self {
-            ReadFault::File(fault) => fault.refusal(),
-            ReadFault::Graph(fault) => fault.refusal(),
+/// The fault's number, layer and place.
+impl From<ReadFault> for Refusal {
+    ghost from_gives = { λ fault refusal. refusal ≡ of_read fault };
+
+    fn from(fault: ReadFault) -> Refusal {
+        match fault {
+            ReadFault::File(fault) => Refusal::from(fault),
+            ReadFault::Graph(fault) => Refusal::from(fault),
         }
     }
 }

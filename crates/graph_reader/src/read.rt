@@ -34,13 +34,6 @@ pub fn read_graph_by(table: &KindTable, file: &[u8]) -> Result<Graph, ReadFault>
     ensures answers { Answers of_read (Applies (minimum_in table.now) file.now) (λ nodes. encode nodes ≡ file.now) (seen result) }
     ensures counts { IfOk result Counts }
 {
-    first_fault_or_graph(table, file)
-}
-
-fn first_fault_or_graph(table: &KindTable, file: &[u8]) -> Result<Graph, ReadFault>
-    ensures is { seen result ≡ reading (minimum_in table.now) file.now }
-    ensures counts { IfOk result Counts }
-{
     check_shape(file)?;
     check_pairs(file)?;
     check_bytes(file)?;

@@ -1,32 +1,46 @@
 // The bytes of a record: which of them are in their ranges. A byte behind the end reads as 0.
-ghost use Rattle.std.specs.Prelude.{◌≡◌, ◌-◌, ◌^◌, ◌<◌, ◌≤◌, length, IfSome};
+ghost use Rattle.std.specs.Prelude.{◌≡◌, ◌+◌, ◌*◌, ◌%◌, ◌^◌, ◌<◌, ◌≤◌, length, IfSome};
 ghost use Rattle.graph_reader.specs.Records.{at, at2, at4, fixed_right, counted_right, length_right, lookup_right, ternary_right, range_right, target_right, row_right, right};
+ghost use Rattle.std.specs.Option.{option_map};
+ghost use Rattle.refusals.specs.Searching.{fault_of};
 ghost use Rattle.graph_reader.specs.Files.{first_wrong};
+ghost use Rattle.graph_reader.specs.declared.fault.FileFault.TheVariants.{Byte};
+
+use crate::fault::FileFault;
+use octets::read::{byte_at, number2, number4};
 
 /// The place of the first byte of a record that is out of its range.
 pub fn first_wrong(bytes: &[u8]) -> Option<usize>
     ensures is { result ≡ first_wrong bytes.now }
     ensures within { IfSome result (λ i. i < length bytes.now) }
 {
-    for i in 0..bytes.len() {
-        if !byte_right(bytes, i) {
-            return Some(i);
-        }
-    }
-    None
+    (0..bytes.len()).find(|i| !byte_right(bytes, *i))
 }
 
+/// Whether each byte of a node's record is in its range. Refused by 3, at the first that is not:
+/// by the lowest 16 bits of its place, which are all of it in a record of at most 65536 bytes.
+pub fn check_record(node: u8, bytes: &[u8]) -> Result<(), FileFault>
+    ensures is { fault_of result ≡ option_map (λ i. Byte node (i % 2 ^ 16)) (first_wrong bytes.now) }
+    ensures brief { length bytes.now ≤ 2 ^ 16 → fault_of result ≡ option_map (Byte node) (first_wrong bytes.now) }
+{
+    first_wrong(bytes).map_or(Ok(()), |at| {
+        Err(FileFault::Byte {
+            node,
+            at: (at % 65536) as u16,
+        })
+    })
+}
+
+#[tactic(auto, unfolding(crate::specs::Records::right))]
 fn byte_right(bytes: &[u8], i: usize) -> bool
     requires { i < 2 ^ 63 }
     ensures { result ≡ right bytes.now i }
 {
-    if i < 8 {
-        return length_right(bytes, i);
+    match i {
+        0..=7 => length_right(bytes, i),
+        8..=15 => lookup_right(bytes, i),
+        _ => RowAt::new(bytes, (i - 16) / 10).right(((i - 16) % 10) as u8),
     }
-    if i < 16 {
-        return lookup_right(bytes, i);
-    }
-    row_right(bytes, 16 + 10 * ((i - 16) / 10), (i - 16) % 10)
 }
 
 // Bytes 0 to 7.
@@ -87,81 +101,86 @@ fn lookup_right(bytes: &[u8], i: usize) -> bool
     }
 }
 
-// Byte j of the row that begins at o.
-fn row_right(bytes: &[u8], o: usize, j: usize) -> bool
-    requires { (j < 10) × (o < 2 ^ 63) }
-    ensures { result ≡ row_right bytes.now o j }
-{
-    if j >= 8 {
-        return target_right(bytes, o, j);
-    }
-    if byte_at(bytes, 13) == 0 {
-        ternary_right(bytes, o, j)
-    } else {
-        range_right(bytes, o, j)
-    }
+// A row of a record: the record, and where in it the row begins.
+#[derive(Clone, Copy)]
+pub(crate) struct RowAt<'a> {
+    pub(crate) bytes: &'a [u8],
+    pub(crate) begin: usize,
+    ghost near: { begin < 2 ^ 63 },
 }
 
-fn ternary_right(bytes: &[u8], o: usize, j: usize) -> bool
-    requires { (j < 8) × (o < 2 ^ 63) }
-    ensures { result ≡ ternary_right bytes.now o j }
-{
-    let byte = byte_at(bytes, o + j);
-    if j % 4 >= byte_at(bytes, 8) as usize {
-        return byte == 0;
+impl<'a> RowAt<'a> {
+    // Row k of a record.
+    pub(crate) fn new(bytes: &'a [u8], k: usize) -> RowAt<'a>
+        requires { 16 + 10 * k < 2 ^ 63 }
+        ensures bytes { result.bytes ≡ bytes.entry }
+        ensures begin { result.begin ≡ 16 + 10 * k }
+    {
+        RowAt {
+            bytes,
+            begin: 16 + 10 * k,
+        }
     }
-    if j >= 4 {
-        return true;
+
+    // Whether byte j of the row is in its range.
+    fn right(&self, j: u8) -> bool
+        ensures { result ≡ row_right self.now.bytes.now self.now.begin j }
+    {
+        if j >= 8 {
+            return self.target_right(j);
+        }
+        if byte_at(self.bytes, 13) == 0 {
+            self.ternary_right(j)
+        } else {
+            self.range_right(j)
+        }
     }
-    byte & byte_at(bytes, o + (j + 4)) == byte
-}
 
-fn range_right(bytes: &[u8], o: usize, j: usize) -> bool
-    requires { (j < 8) × (o < 2 ^ 63) }
-    ensures { result ≡ range_right bytes.now o j }
-{
-    if j == 0 {
-        return number2(bytes, o) <= number2(bytes, o + 2);
+    fn ternary_right(&self, j: u8) -> bool
+        ensures { result ≡ ternary_right self.now.bytes.now self.now.begin j }
+    {
+        let byte = self.byte(j);
+        if j % 4 >= byte_at(self.bytes, 8) {
+            return byte == 0;
+        }
+        j >= 4 || byte & self.byte(j + 4) == byte
     }
-    j < 4 || byte_at(bytes, o + j) == 0
-}
 
-fn target_right(bytes: &[u8], o: usize, j: usize) -> bool
-    requires { (8 ≤ j) × ((j < 10) × (o < 2 ^ 63)) }
-    ensures { result ≡ target_right bytes.now o j }
-{
-    let byte = byte_at(bytes, o + j);
-    if j == 8 {
-        return byte <= 2;
+    fn range_right(&self, j: u8) -> bool
+        ensures { result ≡ range_right self.now.bytes.now self.now.begin j }
+    {
+        if j == 0 {
+            return self.number2(0) <= self.number2(2);
+        }
+        j < 4 || self.byte(j) == 0
     }
-    byte_at(bytes, o + 8) == 0 || byte == 0
-}
 
-// The byte at a place.
-pub(crate) fn byte_at(bytes: &[u8], place: usize) -> u8
-    ensures { result ≡ at bytes.now place }
-{
-    match bytes.get(place) {
-        Some(byte) => *byte,
-        None => 0,
+    fn target_right(&self, j: u8) -> bool
+        ensures { result ≡ target_right self.now.bytes.now self.now.begin j }
+    {
+        let byte = self.byte(j);
+        if j == 8 {
+            return byte <= 2;
+        }
+        self.byte(8) == 0 || byte == 0
     }
-}
 
-// The number in the two bytes from a place on, the highest first.
-pub(crate) fn number2(bytes: &[u8], place: usize) -> u16
-    requires { place < 2 ^ 64 - 1 }
-    ensures { result ≡ at2 bytes.now place }
-{
-    byte_at(bytes, place) as u16 * 256 + byte_at(bytes, place + 1) as u16
-}
+    // Byte j of the row, and the numbers from there on.
+    pub(crate) fn byte(&self, j: u8) -> u8
+        ensures { result ≡ at self.now.bytes.now (self.now.begin + j) }
+    {
+        byte_at(self.bytes, self.begin + j as usize)
+    }
 
-// The number in the four bytes from a place on, the highest first.
-pub(crate) fn number4(bytes: &[u8], place: usize) -> u32
-    requires { place < 2 ^ 64 - 3 }
-    ensures { result ≡ at4 bytes.now place }
-{
-    byte_at(bytes, place) as u32 * 16777216
-        + byte_at(bytes, place + 1) as u32 * 65536
-        + byte_at(bytes, place + 2) as u32 * 256
-        + byte_at(bytes, place + 3) as u32
+    pub(crate) fn number2(&self, j: u8) -> u16
+        ensures { result ≡ at2 self.now.bytes.now (self.now.begin + j) }
+    {
+        number2(self.bytes, self.begin + j as usize)
+    }
+
+    pub(crate) fn number4(&self, j: u8) -> u32
+        ensures { result ≡ at4 self.now.bytes.now (self.now.begin + j) }
+    {
+        number4(self.bytes, self.begin + j as usize)
+    }
 }

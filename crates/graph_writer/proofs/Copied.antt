@@ -1,9 +1,10 @@
 -- A graph that was read is written without a fault, but for want of room.
+use Rattle.std.specs.Option.{option_or, option_map}
 use Rattle.std.proofs.Common.{◌≡◌, ℕ, ◌<◌, leb, List, length, take, Some, None, Ok, Err, Option, sym, refl, ap, ◌∙◌, ap₂, arith}
 use Rattle.std.proofs.lemmas.List.{length-map}
 use Rattle.std.proofs.lemmas.List.FromFn.{length-map-range_with_len, get_or-map-range_with_len}
 use Rattle.std.proofs.lemmas.Bool.{and_from, le-leb}
-use Rattle.refusals.specs.Searching.{or_else, unless, wrapped, unless_fault}
+use Rattle.refusals.specs.Searching.{unless, unless_fault}
 use Rattle.refusals.proofs.Searching.{or_else_none, wrapped_none, unless_none, nowhere, none_of}
 use Rattle.headers.specs.declared.kinds.Kind.{Kind}
 use Rattle.graphs.specs.declared.graph.Graph.{Graph}
@@ -32,7 +33,7 @@ use Rattle.graph_writer.proofs.Putting.{write_clear}
 
 -- a refused file: what is told of it
 pub copy_refused : (minimum : Kind → ℕ) (f : List ℕ) (room : ℕ) (e : ReadFault) → Err e ≡ reading minimum f → Some (from_read e) ≡ copy_fault minimum f room
-copy_refused minimum f room e h = ap (λ o. or_else (wrapped from_read o) (unless (leb 5762 room) Area)) (told (read_fault minimum f) h)
+copy_refused minimum f room e h = ap (λ o. option_or (option_map from_read o) (unless (leb 5762 room) Area)) (told (read_fault minimum f) h)
   where
     told : (o : Option ReadFault) → Err e ≡ unless_fault o (nodes_in f) → Some e ≡ o
     told None h = let z : ◌≡◌ {A = ℕ} 0 1 = cc in absurd (omega arith)
@@ -71,13 +72,13 @@ module _ (minimum : Kind → ℕ) (f : List ℕ) (byte : (i : ℕ) → at f i < 
   records_clear : records_fault nodes ≡ None
   records_clear =
       none_of (record_fault_at nodes) (length nodes) 0
-      (λ i l h. ap (λ r. wrapped (Byte i) (first_wrong r)) (record_same i (omega arith))
+      (λ i l h. ap (λ r. option_map (Byte i) (first_wrong r)) (record_same i (omega arith))
       ∙ nowhere (record_fault f) (at f 0) 0 (clear minimum f told).2 i (omega arith) (omega (arith, many)))
 
   graph_clear : graph_fault minimum (graph_view g) ≡ None
-  graph_clear = ap (graph_fault minimum) shown ∙ wrapped_none read.Graph (graph_fault minimum (nodes_in f)) (or_else_none (wrapped read.File (file_fault f)) _ told).1
+  graph_clear = ap (graph_fault minimum) shown ∙ wrapped_none read.Graph (graph_fault minimum (nodes_in f)) (or_else_none (option_map read.File (file_fault f)) _ told).1
 
   pub only_room : (room : ℕ) → write_fault minimum g room ≡ copy_fault minimum f room
   only_room room =
       write_clear minimum g room (sym count_clear) (sym records_clear) (sym graph_clear)
-      ∙ sym (ap (λ o. or_else (wrapped from_read o) (unless (leb 5762 room) Area)) told)
+      ∙ sym (ap (λ o. option_or (option_map from_read o) (unless (leb 5762 room) Area)) told)

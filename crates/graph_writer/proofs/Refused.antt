@@ -1,7 +1,8 @@
 -- What writing tells of a graph is its least fault.
+use Rattle.std.specs.Option.{option_or, option_map}
 use Rattle.std.proofs.Common.{◌≡◌, ℕ, false, ◌&&◌, leb, ◌⊎◌, List, length, take, Some, None, Option, Result, sym, refl, ap, subst, inl, inr, arith}
 use Rattle.std.proofs.lemmas.Bool.{and_cases, and_left, and_right, leb-false, lt-leb}
-use Rattle.refusals.specs.Searching.{or_else, unless, wrapped, unless_fault}
+use Rattle.refusals.specs.Searching.{unless, unless_fault}
 use Rattle.refusals.specs.Least.{rank, NotAfter, Answers}
 use Rattle.refusals.proofs.Lowest.{Lowest, lowest_like, lowest_or, lowest_unless, lowest_wrapped}
 use Rattle.headers.specs.declared.kinds.Kind.{Kind}
@@ -47,9 +48,9 @@ module _ (g : Graph) where
   from_record (Pair i) h = absurd h
   from_record (Byte n b) h = inr (n, omega arith, omega (arith, h.0), (b, refl, (b, omega arith, omega (arith, h.1), (refl, h.2))))
 
-  record_lowest : Lowest before (RecordApplies g) (or_else (count_fault g) (records_fault nodes))
+  record_lowest : Lowest before (RecordApplies g) (option_or (count_fault g) (records_fault nodes))
   record_lowest =
-      lowest_like before (λ e. CountTold e ⊎ RecordsTold e) (RecordApplies g) into_record from_record (or_else (count_fault g) (records_fault nodes))
+      lowest_like before (λ e. CountTold e ⊎ RecordsTold e) (RecordApplies g) into_record from_record (option_or (count_fault g) (records_fault nodes))
       (lowest_or before CountTold RecordsTold
       (λ e d p q. inl (omega (arith, ap (λ x. rank (of_file x)) p.0, ap (λ x. rank (of_file x)) q.3.1)))
       (count_fault g) (records_fault nodes)
@@ -80,10 +81,10 @@ module _ (minimum : Kind → ℕ) (g : Graph) (room : ℕ) where
   out Area h = inr (inr (refl, lt-leb 5762 room h))
 
   -- the fault with the file's part taken together
-  regrouped : write_fault minimum g room ≡ or_else (wrapped File (or_else (count_fault g) (records_fault (nodes g)))) (or_else (wrapped InGraph (graph_fault minimum (graph_view g))) (unless (leb 5762 room) Area))
+  regrouped : write_fault minimum g room ≡ option_or (option_map File (option_or (count_fault g) (records_fault (nodes g)))) (option_or (option_map InGraph (graph_fault minimum (graph_view g))) (unless (leb 5762 room) Area))
   regrouped = together (count_fault g) (records_fault (nodes g)) _
     where
-      together : (a b : Option FileFault) (c : Option WriteFault) → or_else (wrapped File a) (or_else (wrapped File b) c) ≡ or_else (wrapped File (or_else a b)) c
+      together : (a b : Option FileFault) (c : Option WriteFault) → option_or (option_map File a) (option_or (option_map File b) c) ≡ option_or (option_map File (option_or a b)) c
       together (Some x) b c = refl
       together None b c = refl
 
@@ -96,11 +97,11 @@ module _ (minimum : Kind → ℕ) (g : Graph) (room : ℕ) where
         | inl w ↦ subst (λ e. order e d) (sym p.1) (subst (order (File p.0)) (sym w.1) (file_below p.0 w.0))
         | inr w ↦ inl (omega (arith, ap (λ x. rank (of_write x)) p.1, file_rank p.0, ap (λ x. rank (of_write x)) w.0))
       ])
-      (wrapped File (or_else (count_fault g) (records_fault (nodes g)))) (or_else (wrapped InGraph (graph_fault minimum (graph_view g))) (unless (leb 5762 room) Area))
-      (lowest_wrapped order File (RecordApplies g) (or_else (count_fault g) (records_fault (nodes g))) (record_lowest g))
+      (option_map File (option_or (count_fault g) (records_fault (nodes g)))) (option_or (option_map InGraph (graph_fault minimum (graph_view g))) (unless (leb 5762 room) Area))
+      (lowest_wrapped order File (RecordApplies g) (option_or (count_fault g) (records_fault (nodes g))) (record_lowest g))
       (lowest_or order OfGraph OfArea
       (λ e d p q. inl (omega (arith, ap (λ x. rank (of_write x)) p.1, graph_ranks p.0, ap (λ x. rank (of_write x)) q.0)))
-      (wrapped InGraph (graph_fault minimum (graph_view g))) (unless (leb 5762 room) Area)
+      (option_map InGraph (graph_fault minimum (graph_view g))) (unless (leb 5762 room) Area)
       (lowest_wrapped order InGraph (GraphApplies minimum (graph_view g)) (graph_fault minimum (graph_view g)) (graph_lowest minimum (graph_view g)))
       (lowest_unless order (leb 5762 room) Area (inr (refl, inr (refl, omega arith)))))))
 

@@ -1,8 +1,9 @@
 -- What is written is read as the same graph.
+use Rattle.std.specs.Option.{option_map}
 use Rattle.std.proofs.Common.{◌≡◌, ℕ, ◌<◌, ◌≤◌, leb, List, length, take, None, sym, refl, ap, ◌∙◌, arith}
 use Rattle.std.proofs.lemmas.List.{length-map}
 use Rattle.std.proofs.lemmas.Bool.{and_parts, leb-true}
-use Rattle.refusals.specs.Searching.{unless, wrapped}
+use Rattle.refusals.specs.Searching.{unless}
 use Rattle.refusals.proofs.Searching.{or_else_none, wrapped_none, unless_none, nowhere}
 use Rattle.headers.specs.declared.kinds.Kind.{Kind}
 use Rattle.graphs.specs.declared.graph.Graph.{Graph}
@@ -26,17 +27,17 @@ module _ (minimum : Kind → ℕ) (g : Graph) (room : ℕ) (clear : write_fault 
   views = graph_view g
 
   records : records_fault nodes ≡ None
-  records = wrapped_none File (records_fault nodes) (or_else_none (wrapped File (records_fault nodes)) _ (or_else_none (wrapped File (count_fault g)) _ clear).1).0
+  records = wrapped_none File (records_fault nodes) (or_else_none (option_map File (records_fault nodes)) _ (or_else_none (option_map File (count_fault g)) _ clear).1).0
 
   sound_graph : graph_fault minimum views ≡ None
   sound_graph =
       wrapped_none InGraph (graph_fault minimum views)
-      (or_else_none (wrapped InGraph (graph_fault minimum views)) (unless (leb 5762 room) Area) (or_else_none (wrapped File (records_fault nodes)) _ (or_else_none (wrapped File (count_fault g)) _ clear).1).1).0
+      (or_else_none (option_map InGraph (graph_fault minimum views)) (unless (leb 5762 room) Area) (or_else_none (option_map File (records_fault nodes)) _ (or_else_none (option_map File (count_fault g)) _ clear).1).1).0
 
   some : 1 ≤ g.count
   some =
       leb-true 1 g.count (and_parts (leb 1 g.count) (leb g.count 32)
-      (unless_none _ Shape (wrapped_none File (count_fault g) (or_else_none (wrapped File (count_fault g)) _ clear).0))).0
+      (unless_none _ Shape (wrapped_none File (count_fault g) (or_else_none (option_map File (count_fault g)) _ clear).0))).0
 
   many : length views ≡ g.count
   many = length-map nodes node_view ∙ w.full

@@ -1,65 +1,25 @@
 -- A record written part by part.
-use Rattle.std.proofs.Common.{◌≡◌, ℕ, zero, suc, ◌+◌, ◌-◌, ◌*◌, ◌<◌, ◌≤◌, true, cond, ltb, List, [], ◌∷◌, ◌++◌, length, take, drop, None, sym, refl, ap, ◌∙◌, subst, ap₂, add-zero, arith}
-use Rattle.std.specs.List.{flat_map}
-use Rattle.std.proofs.lemmas.List.{length-append, length-take-le, take_more, take_all, flat_map_more, take-append-drop, take_at, append_assoc}
+use Rattle.std.proofs.Common.{◌≡◌, ℕ, zero, suc, ◌+◌, ◌*◌, ◌<◌, ◌≤◌, true, cond, ltb, List, [], ◌∷◌, ◌++◌, length, take, drop, None, sym, refl, ap, ◌∙◌, subst, ap₂, arith}
+use Rattle.std.proofs.lemmas.List.{length-append, length-take-le, take_at, append_assoc}
 use Rattle.graphs.specs.declared.graph.Length.{Length}
 use Rattle.graphs.specs.declared.graph.Length.TheVariants.{Fixed, Counted}
 use Rattle.graphs.specs.declared.graph.Node.{Node}
-use Rattle.graphs.specs.View.{RowsView, ternary_rows, range_rows, row_count, node_view}
-use Rattle.graph_reader.specs.Encoding.{length_bytes, ternary_bytes, range_bytes, row_bytes, place_bytes, sort_byte, record_with, record_of}
+use Rattle.graphs.specs.View.{row_count, node_view}
+use Rattle.graph_reader.specs.Encoding.{length_bytes, row_bytes, place_bytes, sort_byte, record_with, record_of}
 use Rattle.std.proofs.lemmas.Bool.{cond-true, lt-ltb, leb-true, and_parts}
 use Rattle.headers.specs.Kinds.{kind_number}
 use Rattle.graph_reader.specs.Records.{at, right}
 use Rattle.graph_reader.specs.Files.{first_wrong}
 use Rattle.refusals.proofs.Searching.{holds}
 use Rattle.graph_writer.specs.Writing.{record_for}
-use Rattle.graph_writer.specs.Parts.{Counted as Counts, place_byte, written, head_of, row_at, first_rows, bytes_for}
-use Rattle.graph_reader.proofs.Places.{ternary_length, range_length, joined_length}
-use Rattle.graph_writer.proofs.Written.{written_more}
-
-length_of : (l : Length) (xs : List ℕ) → length (length_bytes l ++ xs) ≡ 7 + length xs
-length_of (Fixed n) xs = omega arith
-length_of (Counted place mask shift unit base) xs = omega arith
+use Rattle.graph_writer.specs.Parts.{Counted as Counts, place_byte, written, head_of, bytes_for}
+use Rattle.graph_reader.proofs.Places.{length_of, rows_length}
 
 pub head_length : (n : Node) → length (head_of n) ≡ 16
 head_length n = ap suc (length_of n.length _)
 
-rows_length : (v : RowsView) (k : ℕ) → k ≤ row_count v → length (row_bytes (first_rows k v)) ≡ 10 * k
-rows_length (ternary_rows rs) k h = joined_length ternary_bytes ternary_length (take k rs) ∙ ap (λ n. 10 * n) (length-take-le k rs h)
-rows_length (range_rows rs) k h = joined_length range_bytes range_length (take k rs) ∙ ap (λ n. 10 * n) (length-take-le k rs h)
-
-rows_more : (v : RowsView) (k : ℕ) → k < row_count v → row_bytes (first_rows k v) ++ row_at v k ≡ row_bytes (first_rows (k + 1) v)
-rows_more (ternary_rows rs) k h = flat_map_more ternary_bytes [] (take k rs) _ ∙ ap (flat_map ternary_bytes) (sym (take_more rs k _ h))
-rows_more (range_rows rs) k h = flat_map_more range_bytes [] (take k rs) _ ∙ ap (flat_map range_bytes) (sym (take_more rs k _ h))
-
-rows_all : (v : RowsView) → first_rows (row_count v) v ≡ v
-rows_all (ternary_rows rs) = ap ternary_rows (take_all (length rs) rs (omega arith))
-rows_all (range_rows rs) = ap range_rows (take_all (length rs) rs (omega arith))
-
-pub rows_none : (area : List ℕ) (at : ℕ) (v : RowsView) → area ≡ written area at (row_bytes (first_rows 0 v))
-rows_none area at (ternary_rows rs) = sym (ap (λ n. take at area ++ drop n area) (add-zero at) ∙ take-append-drop at area)
-rows_none area at (range_rows rs) = sym (ap (λ n. take at area ++ drop n area) (add-zero at) ∙ take-append-drop at area)
-
--- one row more
-pub rows_step : (area : List ℕ) (at k : ℕ) (v : RowsView) → k < row_count v → row_count v ≤ 16 → at + 176 ≤ length area
-    → written (written area (at + 16) (row_bytes (first_rows k v))) (at + (16 + 10 * k)) (row_at v k) ≡ written area (at + 16) (row_bytes (first_rows (k + 1) v))
-rows_step area at k v h few room =
-    let l : length (row_bytes (first_rows k v)) ≡ 10 * k = rows_length v k (omega arith) in
-    written_more area (at + 16) (row_bytes (first_rows k v)) (omega arith) (at + (16 + 10 * k)) (row_at v k) (omega arith)
-    ∙ ap (written area (at + 16)) (rows_more v k h)
-
--- head and rows
-pub record_put : (area : List ℕ) (at : ℕ) (n : Node) → at + 176 ≤ length area
-    → written (written area at (head_of n)) (at + 16) (row_bytes (first_rows (row_count (node_view n).rows) (node_view n).rows)) ≡ written area at (bytes_for n)
-record_put area at n room =
-    let l = head_length n in
-    ap (λ v. written (written area at (head_of n)) (at + 16) (row_bytes v)) (rows_all (node_view n).rows)
-    ∙ written_more area at (head_of n) (omega arith) (at + 16) (row_bytes (node_view n).rows) (omega arith)
-
 pub bytes_length : (n : Node) → length (bytes_for n) ≡ 16 + 10 * row_count (node_view n).rows
-bytes_length n =
-    length-append (head_of n) (row_bytes (node_view n).rows)
-    ∙ ap₂ (λ x y. x + y) (head_length n) (ap (λ v. length (row_bytes v)) (sym (rows_all (node_view n).rows)) ∙ rows_length (node_view n).rows (row_count (node_view n).rows) (omega arith))
+bytes_length n = length-append (head_of n) (row_bytes (node_view n).rows) ∙ ap₂ (λ x y. x + y) (head_length n) (rows_length (node_view n).rows)
 
 place_bytes_lem : (c : ℕ) (ps : List ℕ) → length ps ≡ 4 → place_bytes (take c ps) ≡ place_byte c ps 0 ∷ place_byte c ps 1 ∷ place_byte c ps 2 ∷ place_byte c ps 3 ∷ []
 place_bytes_lem c [] e = absurd (omega arith)
@@ -108,9 +68,8 @@ rows_at : (n : Node) → at (bytes_for n) 14 ≡ n.row_count
 rows_at n = at_fourteen n.length (kind_number n.kind) _ (row_bytes (node_view n).rows)
 
 -- the front of an area that a record was written to is the record
-pub front_is : (area before bytes : List ℕ) (size : ℕ) → area ≡ written before 0 bytes → size ≡ length bytes → take (size - 0) area ≡ bytes
-front_is area before bytes size e l =
-    ap₂ take (omega arith) e ∙ take_at bytes (drop (0 + length bytes) before) (length bytes) refl
+pub front_is : (area before bytes : List ℕ) (size : ℕ) → area ≡ written before 0 bytes → size ≡ length bytes → take size area ≡ bytes
+front_is area before bytes size e l = ap₂ take l e ∙ take_at bytes (drop (0 + length bytes) before) (length bytes) refl
 
 -- a record with no wrong byte: its counts are in range
 pub counts_right : (n : Node) (size : ℕ) → Counts n size → first_wrong (record_for n) ≡ None → length (record_for n) ≡ size → record_for n ≡ record_of (node_view n)

@@ -1,11 +1,10 @@
 -- A graph's file part by part, as it is put into an area.
-use Rattle.std.specs.Prelude.{◌≡◌, ℕ, ◌+◌, ◌*◌, ◌≤◌, cond, List, [], ◌∷◌, ◌++◌, map, length, take, drop, nat_lt, slice_index, slice_index_or}
+use Rattle.std.specs.Prelude.{◌≡◌, ℕ, ◌+◌, ◌*◌, ◌≤◌, cond, List, [], ◌∷◌, ◌++◌, map, length, take, drop, nat_lt, slice_index}
 use Rattle.std.specs.List.{flat_map}
 use Rattle.headers.specs.Kinds.{kind_number}
-use Rattle.patterns.specs.declared.row.Target.TheVariants.{Node as ToNode}
 use Rattle.graphs.specs.declared.graph.Node.{Node}
-use Rattle.graphs.specs.View.{RowsView, ternary_rows, range_rows, node_view, row_count}
-use Rattle.graph_reader.specs.Encoding.{length_bytes, ternary_bytes, range_bytes, sort_byte, row_bytes, pairs_from}
+use Rattle.graphs.specs.View.{node_view, row_count}
+use Rattle.graph_reader.specs.Encoding.{length_bytes, sort_byte, row_bytes, pairs_from}
 use Rattle.graph_writer.specs.Writing.{record_for}
 
 -- an area with bytes written from a place on
@@ -21,16 +20,6 @@ abbrev pub head_of : Node → List ℕ
 head_of n =
     kind_number n.kind ∷ (length_bytes n.length ++ (n.place_count ∷ place_byte n.place_count n.places 0 ∷ place_byte n.place_count n.places 1
     ∷ place_byte n.place_count n.places 2 ∷ place_byte n.place_count n.places 3 ∷ sort_byte (node_view n).rows ∷ n.row_count ∷ 0 ∷ []))
-
--- the ten bytes of row k
-abbrev pub row_at : RowsView → ℕ → List ℕ
-row_at (ternary_rows rs) k = ternary_bytes (slice_index_or rs k (record { value = 0; mask = 0; target = ToNode 0 }))
-row_at (range_rows rs) k = range_bytes (slice_index_or rs k (record { low = 0; high = 0; target = ToNode 0 }))
-
--- the first rows of a node
-abbrev pub first_rows : ℕ → RowsView → RowsView
-first_rows n (ternary_rows rs) = ternary_rows (take n rs)
-first_rows n (range_rows rs) = range_rows (take n rs)
 
 -- the same record, in two parts
 abbrev pub bytes_for : Node → List ℕ

@@ -1,6 +1,7 @@
 -- What writing a graph tells, and what the area holds after.
+use Rattle.std.specs.Option.{option_or, option_map}
 use Rattle.std.specs.Prelude.{◌≡◌, ℕ, ◌<◌, ◌≤◌, ◌&&◌, List, ◌++◌, length, take, drop, Some, None, Option, nat_le, slice_index_or}
-use Rattle.refusals.specs.Searching.{wrapped, first_told, unless, or_else}
+use Rattle.refusals.specs.Searching.{first_told, unless}
 use Rattle.headers.specs.declared.kinds.Kind.{Kind}
 use Rattle.graphs.specs.declared.graph.Graph.{Graph}
 use Rattle.graphs.specs.declared.graph.Node.{Node}
@@ -19,7 +20,7 @@ record_for n = record_with n.place_count n.row_count (node_view n)
 
 -- number 3 of a node that is to be written: the first wrong byte of its record
 abbrev pub node_byte_fault : ℕ → Node → Option FileFault
-node_byte_fault n node = wrapped (Byte n) (first_wrong (record_for node))
+node_byte_fault n node = option_map (Byte n) (first_wrong (record_for node))
 
 -- the node at n
 abbrev pub node_of : List Node → ℕ → Node
@@ -39,9 +40,9 @@ count_fault g = unless (nat_le 1 g.count && nat_le g.count 32) Shape
 -- the first fault of a graph that is to be written to so much room, by number: 1, 3, 4 to 6, then 11
 abbrev pub write_fault : (Kind → ℕ) → Graph → ℕ → Option WriteFault
 write_fault minimum g room =
-    or_else (wrapped File (count_fault g))
-    (or_else (wrapped File (records_fault (take g.count g.nodes)))
-    (or_else (wrapped InGraph (graph_fault minimum (graph_view g))) (unless (nat_le 5762 room) Area)))
+    option_or (option_map File (count_fault g))
+    (option_or (option_map File (records_fault (take g.count g.nodes)))
+    (option_or (option_map InGraph (graph_fault minimum (graph_view g))) (unless (nat_le 5762 room) Area)))
 
 -- the area after: as it was, or the file with the rest as it was
 abbrev pub area_after : Option WriteFault → List ℕ → List ℕ → List ℕ

@@ -16,20 +16,15 @@ pub enum WriteFault {
     Area,
 }
 
-impl WriteFault {
-    /// The fault's number, layer and place.
-    pub fn refusal(self) -> Refusal
-        ensures { result ≡ of_write self }
-    {
-        match self {
-            WriteFault::File(fault) => fault.refusal(),
-            WriteFault::Graph(fault) => fault.refusal(),
-            WriteFault::Area => Refusal {
-                number: 11,
-                layer: Layer::Writing,
-                first: 0,
-                second: 0,
-            },
+/// The fault's number, layer and place.
+impl From<WriteFault> for Refusal {
+    ghost from_gives = { λ fault refusal. refusal ≡ of_write fault };
+
+    fn from(fault: WriteFault) -> Refusal {
+        match fault {
+            WriteFault::File(fault) => Refusal::from(fault),
+            WriteFault::Graph(fault) => Refusal::from(fault),
+            WriteFault::Area => Refusal::new(11, Layer::Writing),
         }
     }
 }

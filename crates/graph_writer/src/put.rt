@@ -1,21 +1,21 @@
 // The bytes of a graph's file, put into an area part by part.
-ghost use Rattle.std.specs.Prelude.{◌≡◌, ◌+◌, ◌*◌, ◌<◌, ◌≤◌, map, length};
+ghost use Rattle.std.specs.Prelude.{◌≡◌, ℕ, ◌+◌, ◌*◌, ◌<◌, ◌≤◌, List, ◌++◌, map, length};
 ghost use Rattle.std.specs.List.{flat_map};
-ghost use Rattle.graphs.specs.View.{node_view, row_count};
-ghost use Rattle.graph_reader.specs.Encoding.{length_bytes, target_bytes, ternary_bytes, range_bytes, sort_byte, pairs_from};
+ghost use Rattle.graphs.specs.View.{node_view};
+ghost use Rattle.graph_reader.specs.Encoding.{two, length_bytes, target_bytes, ternary_bytes, range_bytes, sort_byte, pairs_from};
 ghost use Rattle.graph_writer.specs.Writing.{record_for};
-ghost use Rattle.graph_writer.specs.Parts.{written, place_byte, head_of, row_at, Counted, file_for};
+ghost use Rattle.graph_writer.specs.Parts.{written, place_byte, head_of, Counted, file_for};
 
 use graphs::graph::{Length, Node, Rows};
 use graphs::named::named;
 use patterns::row::{RangeRow, Target, TernaryRow};
 
-// Writes bytes from a place on; the rest stays.
-fn put(area: &mut [u8], at: usize, bytes: &[u8])
-    requires { at + length bytes.now ≤ length area.old }
-    ensures { area.new ≡ written area.old at bytes.now }
+// Writes bytes to the front of an area; the rest stays.
+fn put(area: &mut [u8], bytes: &[u8])
+    requires { length bytes.now ≤ length area.old }
+    ensures { area.new ≡ written area.old 0 bytes.now }
 {
-    area[at..at + bytes.len()].copy_from_slice(bytes);
+    area[..bytes.len()].copy_from_slice(bytes);
 }
 
 // Bytes 1 to 7 of a record.
@@ -61,16 +61,16 @@ fn head_of(node: &Node) -> [u8; 16]
     ensures is { result ≡ head_of node.now }
     ensures four { length node.now.places ≡ 4 }
 {
-    let l = length_bytes(node.length);
+    let [counted, a, b, c, d, e, zero] = length_bytes(node.length);
     [
-        node.kind.number(),
-        l[0],
-        l[1],
-        l[2],
-        l[3],
-        l[4],
-        l[5],
-        l[6],
+        u8::from(node.kind),
+        counted,
+        a,
+        b,
+        c,
+        d,
+        e,
+        zero,
         node.place_count,
         place_byte(node, 0),
         place_byte(node, 1),
@@ -93,102 +93,95 @@ fn target_bytes(target: Target) -> [u8; 2]
     }
 }
 
-fn ternary_bytes(row: TernaryRow) -> [u8; 10]
-    ensures { result ≡ ternary_bytes row }
-{
-    let v = row.value;
-    let m = row.mask;
-    let t = target_bytes(row.target);
-    [
-        (v / 16777216) as u8,
-        (v / 65536 % 256) as u8,
-        (v / 256 % 256) as u8,
-        (v % 256) as u8,
-        (m / 16777216) as u8,
-        (m / 65536 % 256) as u8,
-        (m / 256 % 256) as u8,
-        (m % 256) as u8,
-        t[0],
-        t[1],
-    ]
+// The ten bytes of a row.
+trait RowBytes: Copy {
+    ghost said: { Self → List ℕ };
+
+    fn row_bytes(self) -> [u8; 10]
+        ensures { result ≡ said self };
 }
 
-fn range_bytes(row: RangeRow) -> [u8; 10]
-    ensures { result ≡ range_bytes row }
-{
-    let t = target_bytes(row.target);
-    [
-        (row.low / 256) as u8,
-        (row.low % 256) as u8,
-        (row.high / 256) as u8,
-        (row.high % 256) as u8,
-        0,
-        0,
-        0,
-        0,
-        t[0],
-        t[1],
-    ]
-}
+impl RowBytes for TernaryRow {
+    ghost said = { ternary_bytes };
 
-// The ten bytes of row k.
-fn row_bytes(node: &Node, k: usize) -> [u8; 10]
-    requires { k < row_count (node_view node.now).rows }
-    ensures { result ≡ row_at (node_view node.now).rows k }
-{
-    match &node.rows {
-        Rows::Ternary(rows) => ternary_bytes(named(rows, node.row_count)[k]),
-        Rows::Range(rows) => range_bytes(named(rows, node.row_count)[k]),
+    fn row_bytes(self) -> [u8; 10] {
+        let [a, b, c, d] = self.value.to_be_bytes();
+        let [e, f, g, h] = self.mask.to_be_bytes();
+        let [sort, to] = target_bytes(self.target);
+        [a, b, c, d, e, f, g, h, sort, to]
     }
 }
 
-// Writes a node's record from a place on, and answers its length.
-pub(crate) fn put_record(node: &Node, area: &mut [u8], at: usize) -> usize
-    requires { at + 176 ≤ length area.old }
+impl RowBytes for RangeRow {
+    ghost said = { range_bytes };
+
+    fn row_bytes(self) -> [u8; 10] {
+        let [a, b] = self.low.to_be_bytes();
+        let [c, d] = self.high.to_be_bytes();
+        let [sort, to] = target_bytes(self.target);
+        [a, b, c, d, 0, 0, 0, 0, sort, to]
+    }
+}
+
+// Writes rows one behind the other to the front of an area; the rest stays.
+fn put_rows<R: RowBytes>(rows: &[R], area: &mut [u8])
+    requires { 10 * length rows.now ≤ length area.old }
+    ensures { area.new ≡ written area.old 0 (flat_map R.said rows.now) }
+{
+    // By index and no `as_chunks_mut`: behind that loan a proof knows the area's length and not its bytes.
+    for (k, row) in rows.iter().enumerate() {
+        put(&mut area[10 * k..], &row.row_bytes());
+    }
+}
+
+// Writes a node's record to the front of an area, and answers its length; the rest stays.
+pub(crate) fn put_record(node: &Node, area: &mut [u8]) -> usize
+    requires { 176 ≤ length area.old }
     ensures is { result ≡ length (record_for node.now) }
     ensures rows { Counted node.now result }
-    ensures area { area.new ≡ written area.old at (record_for node.now) }
+    ensures area { area.new ≡ written area.old 0 (record_for node.now) }
 {
-    put(area, at, &head_of(node));
-    let n = node.row_total();
-    for k in 0..n {
-        put(area, at + (16 + 10 * k), &row_bytes(node, k));
+    put(area, &head_of(node));
+    match &node.rows {
+        Rows::Ternary(rows) => put_rows(named(rows, node.row_count), &mut area[16..]),
+        Rows::Range(rows) => put_rows(named(rows, node.row_count), &mut area[16..]),
     }
-    16 + 10 * n
+    16 + 10 * node.row_total()
 }
 
-// Writes the nodes' records one behind the other, from a place on, and answers where they end.
-fn put_records(nodes: &[Node], area: &mut [u8], at: usize) -> usize
-    requires { at + 176 * length nodes.now ≤ length area.old }
-    ensures is { result ≡ at + length (flat_map record_for nodes.now) }
-    ensures area { area.new ≡ written area.old at (flat_map record_for nodes.now) }
+// Writes the nodes' records one behind the other to the front of an area, and answers their length.
+fn put_records(nodes: &[Node], area: &mut [u8]) -> usize
+    requires { 176 * length nodes.now ≤ length area.old }
+    ensures is { result ≡ length (flat_map record_for nodes.now) }
+    ensures area { area.new ≡ written area.old 0 (flat_map record_for nodes.now) }
 {
-    let mut next = at;
-    for n in 0..nodes.len() {
-        next += put_record(&nodes[n], area, next);
+    let mut size = 0;
+    for node in nodes {
+        size += put_record(node, &mut area[size..]);
     }
-    next
+    size
 }
 
-// Writes the nodes' pairs from byte 2 on; the first record begins at `from`.
+// The four bytes of a pair.
+fn pair_bytes(offset: u16, size: u16) -> [u8; 4]
+    ensures { result ≡ two offset ++ two size }
+{
+    let [a, b] = offset.to_be_bytes();
+    let [c, d] = size.to_be_bytes();
+    [a, b, c, d]
+}
+
+// Writes the nodes' pairs to the front of an area; the first record begins at `from`.
 fn put_pairs(nodes: &[Node], area: &mut [u8], from: usize)
-    requires room { 2 + 4 * length nodes.now ≤ length area.old }
+    requires room { 4 * length nodes.now ≤ length area.old }
     requires short { from + 176 * length nodes.now < 65536 }
-    ensures { area.new ≡ written area.old 2 (pairs_from from (map node_view nodes.now)) }
+    ensures { area.new ≡ written area.old 0 (pairs_from from (map node_view nodes.now)) }
 {
     let mut next = from;
-    for n in 0..nodes.len() {
-        let size = 16 + 10 * nodes[n].row_total();
-        put(
-            area,
-            2 + 4 * n,
-            &[
-                (next / 256) as u8,
-                (next % 256) as u8,
-                (size / 256) as u8,
-                (size % 256) as u8,
-            ],
-        );
+    // By index, as in `put_rows`.
+    for (n, node) in nodes.iter().enumerate() {
+        let size = 16 + 10 * node.row_total();
+        put(&mut area[4 * n..], &pair_bytes(next as u16, size as u16));
         next += size;
     }
 }
@@ -199,7 +192,8 @@ pub(crate) fn put_file(nodes: &[Node], area: &mut [u8]) -> usize
     ensures is { result ≡ length (file_for nodes.now) }
     ensures area { area.new ≡ written area.old 0 (file_for nodes.now) }
 {
-    put(area, 0, &[nodes.len() as u8, 0]);
-    put_pairs(nodes, area, 2 + 4 * nodes.len());
-    put_records(nodes, area, 2 + 4 * nodes.len())
+    let begin = 2 + 4 * nodes.len();
+    put(area, &[nodes.len() as u8, 0]);
+    put_pairs(nodes, &mut area[2..], begin);
+    begin + put_records(nodes, &mut area[begin..])
 }

@@ -13,7 +13,7 @@ use crate::fault::WriteFault;
 use crate::put::{put_file, put_record};
 use graph_reader::fault::FileFault;
 use graph_reader::read::MOST_BYTES;
-use graph_reader::record::first_wrong;
+use graph_reader::record::check_record;
 use graphs::check::check_graph;
 use graphs::graph::{Graph, Node};
 use headers::table::KindTable;
@@ -38,14 +38,6 @@ pub fn write_graph_by(
     ensures is { result ≡ unless_fault (write_fault (minimum_in table.now) graph.now (length area.old)) (length (encode (graph_view graph.now))) }
     ensures area { area.new ≡ area_after (write_fault (minimum_in table.now) graph.now (length area.old)) (encode (graph_view graph.now)) area.old }
     ensures answers { Answers of_write (WriteApplies (minimum_in table.now) graph.now (length area.old)) (λ _. ReadsBack (minimum_in table.now) (graph_view graph.now)) result }
-{
-    checked_and_put(table, graph, area)
-}
-
-fn checked_and_put(table: &KindTable, graph: &Graph, area: &mut [u8]) -> Result<usize, WriteFault>
-    ensures is { result ≡ unless_fault (write_fault (minimum_in table.now) graph.now (length area.old)) (length (encode (graph_view graph.now))) }
-    ensures area { area.new ≡ area_after (write_fault (minimum_in table.now) graph.now (length area.old)) (encode (graph_view graph.now)) area.old }
-    ensures writable { OnOk result (Writable graph.now (length area.old)) }
 {
     first_fault(table, graph, area.len())?;
     Ok(put_file(graph.named_nodes(), area))
@@ -80,8 +72,8 @@ fn check_records(nodes: &[Node]) -> Result<(), FileFault>
     ensures is { fault_of result ≡ records_fault nodes.now }
     ensures stand { OnOk result (Standing nodes.now) }
 {
-    for n in 0..nodes.len() {
-        check_node(n as u8, &nodes[n])?;
+    for (n, node) in nodes.iter().enumerate() {
+        check_node(n as u8, node)?;
     }
     Ok(())
 }
@@ -92,12 +84,6 @@ fn check_node(n: u8, node: &Node) -> Result<(), FileFault>
     ensures stands { OnOk result (record_for node.now ≡ record_of (node_view node.now)) }
 {
     let mut buffer = [0u8; 176];
-    let size = put_record(node, &mut buffer, 0);
-    match first_wrong(&buffer[0..size]) {
-        None => Ok(()),
-        Some(at) => Err(FileFault::Byte {
-            node: n,
-            at: at as u16,
-        }),
-    }
+    let size = put_record(node, &mut buffer);
+    check_record(n, &buffer[..size])
 }

@@ -1,7 +1,8 @@
 -- What a check of a graph tells is its least fault.
+use Rattle.std.specs.Option.{option_or}
 use Rattle.std.proofs.Common.{◌≡◌, ℕ, ◌+◌, ◌^◌, ◌<◌, ◌≤◌, true, false, ◌&&◌, ltb, ◌⊎◌, List, length, Some, None, Ok, Err, Option, Result, sym, refl, ap, ◌∙◌, subst, inl, inr, arith}
 use Rattle.std.proofs.lemmas.Bool.{cases_lt, both_ways, lt-ltb, le-ltb, leb-false, lt-leb, and_from, and_left, and_right}
-use Rattle.refusals.specs.Searching.{or_else, fault_of}
+use Rattle.refusals.specs.Searching.{fault_of}
 use Rattle.refusals.specs.Least.{NotAfter, Answers}
 use Rattle.refusals.proofs.Lowest.{Lowest, lowest_like, lowest_or, lowest_of, lowest_unless, lowest_wrapped, lower}
 use Rattle.headers.specs.declared.kinds.Kind.{Kind}
@@ -131,7 +132,7 @@ module _ (minimum : Kind → ℕ) (vs : List NodeView) where
         | inl w ↦ lower (of_graph e) (of_graph d) 4 5 (target_is e p) (covered_is d w) (omega arith)
         | inr w ↦ lower (of_graph e) (of_graph d) 4 6 (target_is e p) (short_is d w) (omega arith)
       ])
-      (first_node (target_fault (length vs)) vs) (or_else (first_node covered_fault vs) (first_node (short_fault minimum) vs)) target_lowest
+      (first_node (target_fault (length vs)) vs) (option_or (first_node covered_fault vs) (first_node (short_fault minimum) vs)) target_lowest
       (lowest_or ahead (Among CoveredTold) (Among ShortTold)
       (λ e d p q. lower (of_graph e) (of_graph d) 5 6 (covered_is e p) (short_is d q) (omega arith))
       (first_node covered_fault vs) (first_node (short_fault minimum) vs) cover_lowest short_lowest))

@@ -1,6 +1,7 @@
 -- The checks of a graph as tests, and the first fault that they find. `Refusals` says the same in words.
+use Rattle.std.specs.Option.{option_or, option_map}
 use Rattle.std.specs.Prelude.{ℕ, Bool, true, ◌&&◌, List, length, Option, nat_le, nat_lt}
-use Rattle.refusals.specs.Searching.{or_else, first_told, unless, wrapped}
+use Rattle.refusals.specs.Searching.{first_told, unless}
 use Rattle.headers.specs.declared.kinds.Kind.{Kind}
 use Rattle.patterns.specs.declared.row.Target.{Target}
 use Rattle.patterns.specs.declared.row.Target.TheVariants.{Node, Done, Dropped}
@@ -32,7 +33,7 @@ target_fault count n v = first_told (row_fault count n v.rows) 0 (row_count v.ro
 
 -- with its rows
 abbrev pub covered_fault : ℕ → NodeView → Option GraphFault
-covered_fault n v = wrapped (Covered n) (covered_in v.rows)
+covered_fault n v = option_map (Covered n) (covered_in v.rows)
 
 -- the first node of which something is told
 abbrev pub node_fault : (ℕ → NodeView → Option GraphFault) → List NodeView → ℕ → Option GraphFault
@@ -53,4 +54,4 @@ module _ (minimum : Kind → ℕ) where
 
   -- all targets, then all rows, then all lengths
   abbrev pub graph_fault : List NodeView → Option GraphFault
-  graph_fault vs = or_else (first_node (target_fault (length vs)) vs) (or_else (first_node covered_fault vs) (first_node short_fault vs))
+  graph_fault vs = option_or (first_node (target_fault (length vs)) vs) (option_or (first_node covered_fault vs) (first_node short_fault vs))

@@ -1,6 +1,6 @@
 -- Which row of a node decides on a key: the first that the key fits.
+use Rattle.std.specs.Option.{option_map}
 use Rattle.std.specs.Prelude.{ℕ, ◌/◌, ◌^◌, Option}
-use Rattle.refusals.specs.Searching.{wrapped}
 use Rattle.patterns.specs.declared.row.Target.{Target}
 use Rattle.patterns.specs.Sorts.{ternary_of, ternary_fits, span_of, span_fits}
 use Rattle.patterns.specs.Finding.{first_fit}
@@ -13,4 +13,4 @@ fitting (range_rows rs) key = first_fit span_of span_fits (key / 2 ^ 16) rs
 
 -- its target
 abbrev pub decide : RowsView → ℕ → Option Target
-decide rows key = wrapped (target_of rows) (fitting rows key)
+decide rows key = option_map (target_of rows) (fitting rows key)

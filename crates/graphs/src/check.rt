@@ -40,7 +40,7 @@ fn first_fault(table: &KindTable, graph: &Graph) -> Result<(), GraphFault>
 fn check_targets(graph: &Graph) -> Result<(), GraphFault>
     ensures { fault_of result ≡ first_node (target_fault (length (graph_view graph.now))) (graph_view graph.now) }
 {
-    let count = graph.named_nodes().len() as u8;
+    let count = graph.size();
     check_each(&TargetCheck { count }, graph)
 }
 
@@ -51,6 +51,7 @@ fn check_lengths(table: &KindTable, graph: &Graph) -> Result<(), GraphFault>
 }
 
 // A check of one node at a time.
+// A trait and no closure: its ghost member names what a check tells, so that one clause says it of all three.
 trait NodeCheck {
     // What is told of node n.
     ghost told: { Self → ℕ → NodeView → Option GraphFault };
@@ -63,9 +64,8 @@ trait NodeCheck {
 fn check_each<C: NodeCheck>(check: &C, graph: &Graph) -> Result<(), GraphFault>
     ensures { fault_of result ≡ first_node (C.told check.now) (graph_view graph.now) }
 {
-    let nodes = graph.named_nodes();
-    for n in 0..nodes.len() {
-        check.check(n as u8, &nodes[n])?;
+    for (n, node) in graph.named_nodes().iter().enumerate() {
+        check.check(n as u8, node)?;
     }
     Ok(())
 }
@@ -92,13 +92,12 @@ impl NodeCheck for CoverCheck {
     ghost told = { λ _. covered_fault };
 
     fn check(&self, n: u8, node: &Node) -> Result<(), GraphFault> {
-        match covered_in(node) {
-            Some(k) => Err(GraphFault::Covered {
+        covered_in(node).map_or(Ok(()), |k| {
+            Err(GraphFault::Covered {
                 node: n,
                 row: k as u8,
-            }),
-            None => Ok(()),
-        }
+            })
+        })
     }
 }
 
@@ -119,13 +118,7 @@ impl NodeCheck for LengthCheck {
                 }
                 Ok(())
             }
-            Length::Counted {
-                place: _,
-                mask: _,
-                shift: _,
-                unit: _,
-                base: _,
-            } => Ok(()),
+            Length::Counted { .. } => Ok(()),
         }
     }
 }
@@ -133,15 +126,14 @@ impl NodeCheck for LengthCheck {
 fn targets_of(count: u8, n: u8, node: &Node) -> Result<(), GraphFault>
     ensures { fault_of result ≡ target_fault count n (node_view node.now) }
 {
-    for k in 0..node.row_total() {
-        if !target_sound(count, n, node.target(k)) {
-            return Err(GraphFault::Target {
+    (0..node.row_total())
+        .find(|k| !target_sound(count, n, node.target(*k)))
+        .map_or(Ok(()), |k| {
+            Err(GraphFault::Target {
                 node: n,
                 row: k as u8,
-            });
-        }
-    }
-    Ok(())
+            })
+        })
 }
 
 fn target_sound(count: u8, n: u8, target: Target) -> bool
@@ -149,8 +141,7 @@ fn target_sound(count: u8, n: u8, target: Target) -> bool
 {
     match target {
         Target::Node(t) => n < t && t < count,
-        Target::Done => true,
-        Target::Dropped => true,
+        Target::Done | Target::Dropped => true,
     }
 }
 

@@ -17,10 +17,8 @@ impl Graph {
     pub fn decide(&self, node: u8, key: u32) -> Option<Target>
         ensures { result ≡ decide (node_at (graph_view self.now) node).rows key }
     {
-        match self.named_nodes().get(node as usize) {
-            Some(node) => node.decide(key),
-            None => None,
-        }
+        let node = self.named_nodes().get(usize::from(node))?;
+        node.decide(key)
     }
 }
 
@@ -28,10 +26,7 @@ impl Node {
     fn decide(&self, key: u32) -> Option<Target>
         ensures { result ≡ decide (node_view self.now).rows key }
     {
-        match self.fitting(key) {
-            Some(row) => Some(self.target(row)),
-            None => None,
-        }
+        self.fitting(key).map(|row| self.target(row))
     }
 
     fn fitting(&self, key: u32) -> Option<usize>

@@ -13,26 +13,16 @@ pub enum GraphFault {
     Short { node: u8 },
 }
 
-impl GraphFault {
-    /// The fault's number, layer and place.
-    pub fn refusal(self) -> Refusal
-        ensures { result ≡ of_graph self }
-    {
-        match self {
-            GraphFault::Target { node, row } => Self::at(4, node, row),
-            GraphFault::Covered { node, row } => Self::at(5, node, row),
-            GraphFault::Short { node } => Self::at(6, node, 0),
-        }
-    }
+/// The fault's number, layer and place.
+impl From<GraphFault> for Refusal {
+    ghost from_gives = { λ fault refusal. refusal ≡ of_graph fault };
 
-    fn at(number: u8, node: u8, row: u8) -> Refusal
-        ensures { result ≡ record { number = number; layer = Layer.Graph; first = node; second = row } }
-    {
-        Refusal {
-            number,
-            layer: Layer::Graph,
-            first: node as u16,
-            second: row as u16,
-        }
+    fn from(fault: GraphFault) -> Refusal {
+        let (number, node, row) = match fault {
+            GraphFault::Target { node, row } => (4, node, row),
+            GraphFault::Covered { node, row } => (5, node, row),
+            GraphFault::Short { node } => (6, node, 0),
+        };
+        Refusal::at(number, Layer::Graph, u16::from(node), u16::from(row))
     }
 }

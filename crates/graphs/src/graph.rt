@@ -1,5 +1,6 @@
 // A parse graph as plain values. Counts, lengths, places and masks are open, so a graph may be
 // unsound: writing it as a file has to refuse it as that file would be refused.
+// Each array stands with a count: a device has fixed memory and no heap, and the count is open too.
 use headers::kinds::Kind;
 use patterns::row::{RangeRow, TernaryRow};
 
@@ -27,6 +28,7 @@ pub enum Length {
 }
 
 /// A node's rows, all of one sort.
+// A match on them has an arm for each sort, often with one text: the rows of the arms differ in type.
 #[derive(Clone, Copy)]
 pub enum Rows {
     Ternary([TernaryRow; ROWS]),

@@ -7,3 +7,4 @@ pub mod decide;
 pub mod fault;
 pub mod graph;
 pub mod named;
+pub mod node;

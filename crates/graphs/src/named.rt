@@ -11,11 +11,7 @@ pub fn named<T>(all: &[T], count: u8) -> &[T]
     ensures within { length result.now ≤ length all.now }
     ensures full { count ≤ length all.now → length result.now ≡ count }
 {
-    if (count as usize) < all.len() {
-        &all[0..count as usize]
-    } else {
-        all
-    }
+    &all[0..all.len().min(usize::from(count))]
 }
 
 impl Graph {

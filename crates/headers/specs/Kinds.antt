@@ -1,6 +1,7 @@
 -- The kinds of header and their numbers.
-use Rattle.std.specs.Prelude.{ℕ, cond, Some, None, Option, ◌==◌, nat_le}
+use Rattle.std.specs.Prelude.{ℕ, cond, Some, None, Ok, Err, Option, Result, ◌==◌, nat_le}
 use Rattle.headers.specs.declared.kinds.Kind.{Kind}
+use Rattle.headers.specs.declared.kinds.UnknownKind.{UnknownKind}
 use Rattle.headers.specs.declared.kinds.Kind.TheVariants.{Ethernet, Vlan, Mpls, Ipv4, Ipv6, Tcp, Udp, Gre, Icmp, Arp, Other}
 
 -- a kind's number
@@ -24,3 +25,7 @@ kind_at n = cond (n == 0) Ethernet (cond (n == 1) Vlan (cond (n == 2) Mpls (cond
 -- the kind that has a number: none has one over 10
 abbrev pub kind_of : ℕ → Option Kind
 kind_of n = cond (nat_le n 10) (Some (kind_at n)) None
+
+-- the same, where a number that no kind has is told
+abbrev pub kind_told : ℕ → Result Kind UnknownKind
+kind_told n = cond (nat_le n 10) (Ok (kind_at n)) (Err (record { number = n }))

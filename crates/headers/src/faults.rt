@@ -1,6 +1,8 @@
 ghost use Rattle.std.specs.Prelude.{◌≡◌};
 ghost use Rattle.headers.specs.Faults.{of_part};
+ghost use Rattle.headers.specs.declared.faults.PartFault.TheVariants.{UnknownKind as OfKind};
 
+use crate::kinds::UnknownKind;
 use refusals::refusal::{Layer, Refusal};
 
 /// Why a part of a packet is not handed out.
@@ -14,21 +16,25 @@ pub enum PartFault {
     PayloadOutside,
 }
 
-impl PartFault {
-    /// The fault as a refusal: number 17, of the layer that was asked.
-    pub fn refusal(self) -> Refusal
-        ensures { result ≡ of_part self }
-    {
-        let layer = match self {
-            PartFault::UnknownKind { kind: _ } => Layer::Field,
-            PartFault::FieldOutside => Layer::Field,
+impl From<UnknownKind> for PartFault {
+    ghost from_gives = { λ unknown fault. fault ≡ OfKind unknown.number };
+
+    fn from(unknown: UnknownKind) -> PartFault {
+        PartFault::UnknownKind {
+            kind: unknown.number,
+        }
+    }
+}
+
+/// The fault as a refusal: number 17, of the layer that was asked.
+impl From<PartFault> for Refusal {
+    ghost from_gives = { λ fault refusal. refusal ≡ of_part fault };
+
+    fn from(fault: PartFault) -> Refusal {
+        let layer = match fault {
+            PartFault::UnknownKind { .. } | PartFault::FieldOutside => Layer::Field,
             PartFault::PayloadOutside => Layer::Payload,
         };
-        Refusal {
-            number: 17,
-            layer,
-            first: 0,
-            second: 0,
-        }
+        Refusal::new(17, layer)
     }
 }

@@ -1,5 +1,5 @@
 ghost use Rattle.std.specs.Prelude.{◌≡◌};
-ghost use Rattle.headers.specs.Kinds.{kind_number, kind_of};
+ghost use Rattle.headers.specs.Kinds.{kind_number, kind_told};
 
 /// A kind of header.
 #[derive(Clone, Copy, PartialEq, Eq, Debug)]
@@ -17,12 +17,18 @@ pub enum Kind {
     Other,
 }
 
-impl Kind {
-    /// The kind's number, 0 to 10.
-    pub fn number(self) -> u8
-        ensures { result ≡ kind_number self }
-    {
-        match self {
+/// A number that no kind has: it is over 10.
+#[derive(Clone, Copy, PartialEq, Eq, Debug)]
+pub struct UnknownKind {
+    pub number: u8,
+}
+
+/// The kind's number, 0 to 10.
+impl From<Kind> for u8 {
+    ghost from_gives = { λ kind number. number ≡ kind_number kind };
+
+    fn from(kind: Kind) -> u8 {
+        match kind {
             Kind::Ethernet => 0,
             Kind::Vlan => 1,
             Kind::Mpls => 2,
@@ -36,24 +42,28 @@ impl Kind {
             Kind::Other => 10,
         }
     }
+}
 
-    /// The kind that has the number. None has a number over 10.
-    pub fn from_number(number: u8) -> Option<Kind>
-        ensures { result ≡ kind_of number }
-    {
+/// The kind that has the number. None has a number over 10.
+impl TryFrom<u8> for Kind {
+    type Error = UnknownKind;
+
+    ghost try_from_gives = { λ number told. told ≡ kind_told number };
+
+    fn try_from(number: u8) -> Result<Kind, UnknownKind> {
         match number {
-            0 => Some(Kind::Ethernet),
-            1 => Some(Kind::Vlan),
-            2 => Some(Kind::Mpls),
-            3 => Some(Kind::Ipv4),
-            4 => Some(Kind::Ipv6),
-            5 => Some(Kind::Tcp),
-            6 => Some(Kind::Udp),
-            7 => Some(Kind::Gre),
-            8 => Some(Kind::Icmp),
-            9 => Some(Kind::Arp),
-            10 => Some(Kind::Other),
-            _ => None,
+            0 => Ok(Kind::Ethernet),
+            1 => Ok(Kind::Vlan),
+            2 => Ok(Kind::Mpls),
+            3 => Ok(Kind::Ipv4),
+            4 => Ok(Kind::Ipv6),
+            5 => Ok(Kind::Tcp),
+            6 => Ok(Kind::Udp),
+            7 => Ok(Kind::Gre),
+            8 => Ok(Kind::Icmp),
+            9 => Ok(Kind::Arp),
+            10 => Ok(Kind::Other),
+            _ => Err(UnknownKind { number }),
         }
     }
 }

@@ -5,5 +5,6 @@
 pub mod faults;
 pub mod kinds;
 pub mod mark;
+pub mod names;
 pub mod part;
 pub mod table;

@@ -29,14 +29,13 @@ pub fn field_in<'a>(
 ) -> Result<Option<&'a [u8]>, PartFault>
     ensures { SaysField packet.entry result (field_answer table.now (length packet.now) mark.now number) }
 {
-    let Some(kind) = Kind::from_number(mark.kind) else {
-        return Err(PartFault::UnknownKind { kind: mark.kind });
-    };
+    let kind = Kind::try_from(mark.kind)?;
     let Some(place) = table.field(kind, number) else {
         return Ok(None);
     };
     let from = mark.offset as usize + place.offset as usize;
     let length = place.length as usize;
+    // By a test and no `get`, here and in `payload`: what `get` hands out is not told to lie in the packet's own memory.
     if from + length > packet.len() {
         return Err(PartFault::FieldOutside);
     }
@@ -51,5 +50,5 @@ pub fn payload<'a>(packet: &'a [u8], from: usize) -> Result<&'a [u8], PartFault>
     if from > packet.len() {
         return Err(PartFault::PayloadOutside);
     }
-    Ok(&packet[from..packet.len()])
+    Ok(&packet[from..])
 }

@@ -13,6 +13,7 @@ pub struct FieldPlace {
 
 /// What is known of a kind: the fewest bytes of its header, and its fields.
 /// Only the first `field_count` places count; the others are 0/0 in the built-in table.
+// An array with its count: the count is open, since a caller may bring a table of its own.
 #[derive(Clone, Copy)]
 pub struct KindRow {
     pub minimum: u8,
@@ -47,13 +48,6 @@ fn kind_row(minimum: u8, field_count: u8, fields: [FieldPlace; 4]) -> KindRow
         field_count,
         fields,
     }
-}
-
-// The place of the number, if there is one.
-fn place_at(places: &[FieldPlace], number: usize) -> Option<FieldPlace>
-    ensures { result ≡ slice_get places.now number }
-{
-    places.get(number).copied()
 }
 
 // The kind's row of the built-in table.
@@ -114,20 +108,16 @@ impl KindTable {
     {
         let row = self.row(kind);
         if number < row.field_count as usize {
-            place_at(&row.fields, number)
+            row.fields.get(number).copied()
         } else {
             None
         }
     }
 
-    // The kind's row. A table has one for each kind, so the blank one is never answered.
+    // The kind's row.
     fn row(&self, kind: Kind) -> KindRow
         ensures { result ≡ row_in self.now kind }
     {
-        let rows: &[KindRow] = &self.rows;
-        match rows.get(kind.number() as usize) {
-            Some(row) => *row,
-            None => kind_row(0, 0, [UNUSED; 4]),
-        }
+        self.rows[usize::from(u8::from(kind))]
     }
 }

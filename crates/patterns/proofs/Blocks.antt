@@ -1,11 +1,11 @@
 -- The blocks of a range hold its numbers and no others. Assumes nothing.
+use Rattle.std.specs.List.{list_any}
 use Rattle.std.proofs.Common.{◌≡◌, ℕ, zero, suc, ◌+◌, ◌-◌, ◌*◌, ◌/◌, ◌%◌, ◌^◌, ◌<◌, ◌≤◌, false, ◌&&◌, ◌||◌, ltb, leb, [], ◌∷◌, sym, ap, ◌∙◌, subst, ap₂, mod-lt, add-mul, one-mul, div-add-mod', arith, pow_pos}
 use native.Mathlib.Nat.{div-eq_of_lt-le}
 use lib.Bits.{bit_and, and_high}
 use lib.Pow.{shr_mod}
 use Rattle.std.proofs.lemmas.Bool.{cond_both, leb-true, leb-false, eqb-true, eq-eqb, and_from, and_parts, le-leb, lt-ltb, ltb-true}
 use Rattle.std.proofs.lemmas.Bool.Decides.{same_from_decides, nat_tests}
-use Rattle.patterns.specs.Finding.{some}
 use Rattle.patterns.specs.Splitting.{top_block, block_of, block_fits, split_by}
 use Rattle.patterns.proofs.Largest.{top_is, pow_back}
 
@@ -49,12 +49,12 @@ past : (low high key : ℕ) → high < low → false ≡ (leb low key && leb key
 past low high key h = grind (arith, nat_tests)
 
 pub split_fits : (steps low high key : ℕ) → high + 1 - low ≤ steps → high < 2 ^ 16 → key < 2 ^ 16
-    → some (λ b. block_fits b key) (split_by steps low high) ≡ (leb low key && leb key high)
+    → list_any (λ b. block_fits b key) (split_by steps low high) ≡ (leb low key && leb key high)
 split_fits zero low high key f w h = past low high key (omega arith)
 split_fits (suc steps) low high key f w h =
     let k = top_block low high in
     cond_both (leb low high) (block_of low k ∷ split_by steps (low + 2 ^ k) high) []
-    (λ bs. some (λ b. block_fits b key) bs ≡ (leb low key && leb key high))
+    (λ bs. list_any (λ b. block_fits b key) bs ≡ (leb low key && leb key high))
     (λ t.
     let l : low ≤ high = leb-true low high t in
     let top = top_is low high l w in

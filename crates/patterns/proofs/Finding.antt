@@ -1,32 +1,21 @@
--- The steps of a search through a list. Assumes nothing.
-use Rattle.std.proofs.Common.{◌≡◌, ℕ, ◌+◌, ◌<◌, ◌≤◌, Bool, true, false, cond, ◌||◌, List, length, get_or, drop, Some, None, sym, ap, ◌∙◌}
-use Rattle.std.proofs.lemmas.List.{at_drop_more, at_drop_all}
-use Rattle.std.proofs.lemmas.Bool.{cond-true, cond-false}
-use Rattle.patterns.specs.Finding.{first_from, some}
+-- What a search through a list finds. Assumes nothing.
+use Rattle.std.proofs.Common.{◌≡◌, ℕ, ◌+◌, Bool, cond, List, [], ◌∷◌, Some, refl, ap, ◌∙◌}
+use Rattle.std.specs.List.{position, position_from, enumerate_from}
+use Rattle.std.proofs.lemmas.Iterator.Adapters.{position_from-zero}
+use Rattle.patterns.specs.Finding.{first_from}
 
-module _ {X : Type 0} (f : ℕ → X → Bool) (xs : List X) (i : ℕ) where
-  at_first : (x : X) → i < length xs → x ≡ get_or xs i x → first_from f i (drop i xs) ≡ cond (f i x) (Some i) (first_from f (i + 1) (drop (i + 1) xs))
-  at_first x h e =
-      at_drop_more (first_from f i) xs i x h ∙ ap (λ y. cond (f i y) (Some i) (first_from f (i + 1) (drop (i + 1) xs))) (sym e)
+-- the place that `position` finds, which needs no place for its test
+from_place : {X : Type 0} (f : X → Bool) (i : ℕ) (xs : List X) → position_from f i xs ≡ first_from (λ _ x. f x) i xs
+from_place f i [] = refl
+from_place f i (x ∷ xs) = ap (cond (f x) (Some i)) (from_place f (i + 1) xs)
 
-  pub first_yes : (x : X) → i < length xs → x ≡ get_or xs i x → f i x ≡ true → first_from f i (drop i xs) ≡ Some i
-  first_yes x h e t = at_first x h e ∙ cond-true (f i x) _ _ t
+pub position_first : {X : Type 0} (f : X → Bool) (xs : List X) → position f xs ≡ first_from (λ _ x. f x) 0 xs
+position_first f xs = position_from-zero f xs ∙ from_place f 0 xs
 
-  pub first_no : (x : X) → i < length xs → x ≡ get_or xs i x → f i x ≡ false → first_from f i (drop i xs) ≡ first_from f (i + 1) (drop (i + 1) xs)
-  first_no x h e t = at_first x h e ∙ cond-false (f i x) _ _ t
+-- and the place that it finds among numbered elements
+from_numbered : {X : Type 0} (f : ℕ → X → Bool) (i : ℕ) (xs : List X) → position_from (λ p. f p.0 p.1) i (enumerate_from i xs) ≡ first_from f i xs
+from_numbered f i [] = refl
+from_numbered f i (x ∷ xs) = ap (cond (f i x) (Some i)) (from_numbered f (i + 1) xs)
 
-  pub first_none : length xs ≤ i → first_from f i (drop i xs) ≡ None
-  first_none h = at_drop_all (first_from f i) xs i h
-
-module _ {X : Type 0} (f : X → Bool) (xs : List X) (i : ℕ) where
-  at_some : (x : X) → i < length xs → x ≡ get_or xs i x → some f (drop i xs) ≡ (f x || some f (drop (i + 1) xs))
-  at_some x h e = at_drop_more (some f) xs i x h ∙ ap (λ y. f y || some f (drop (i + 1) xs)) (sym e)
-
-  pub some_yes : (x : X) → i < length xs → x ≡ get_or xs i x → f x ≡ true → some f (drop i xs) ≡ true
-  some_yes x h e t = at_some x h e ∙ ap (λ b. b || some f (drop (i + 1) xs)) t
-
-  pub some_no : (x : X) → i < length xs → x ≡ get_or xs i x → f x ≡ false → some f (drop i xs) ≡ some f (drop (i + 1) xs)
-  some_no x h e t = at_some x h e ∙ ap (λ b. b || some f (drop (i + 1) xs)) t
-
-  pub some_none : length xs ≤ i → some f (drop i xs) ≡ false
-  some_none h = at_drop_all (some f) xs i h
+pub position_numbered : {X : Type 0} (f : ℕ → X → Bool) (xs : List X) → position (λ p. f p.0 p.1) (enumerate_from 0 xs) ≡ first_from f 0 xs
+position_numbered f xs = position_from-zero (λ p. f p.0 p.1) (enumerate_from 0 xs) ∙ from_numbered f 0 xs

@@ -1,9 +1,10 @@
 -- The searches find the first place of which their words hold. Assumes nothing.
 use Rattle.std.proofs.Common.{◌≡◌, ℕ, zero, suc, ◌+◌, ◌<◌, Bool, true, false, List, [], ◌∷◌, take, Some, None, Decides, Option, sym, refl, ap, ◌∙◌, subst, inl, inr, add-zero, arith, MatchOption}
-use Rattle.std.specs.List.{slice_get}
+use Rattle.std.specs.List.{slice_get, list_any}
 use Rattle.std.proofs.lemmas.Bool.{cond_both, or_cases, or_left, or_right, both_ways}
-use Rattle.patterns.specs.Finding.{first_from, some, passes, row_fits, first_fit, row_covers, any_covers, covered, first_covered}
+use Rattle.patterns.specs.Finding.{first_from, passes, row_fits, first_fit, row_covers, any_covers, covered, first_covered}
 use Rattle.patterns.specs.Firsts.{First, FitsAt, CoveredAt}
+use Rattle.patterns.proofs.Finding.{position_first}
 
 module _ {X : Type 0} (f : ℕ → X → Bool) where
   -- the element at n, where the first counts as i, passes
@@ -69,18 +70,18 @@ passes_inv f None e = absurd (both_ways false refl e)
 passes_inv f (Some p) e = (p, refl, e)
 
 module _ {X : Type 0} (f : X → Bool) where
-  some_at : (xs : List X) (n j : ℕ) (x : X) → j < n → slice_get xs j ≡ Some x → f x ≡ true → some f (take n xs) ≡ true
+  some_at : (xs : List X) (n j : ℕ) (x : X) → j < n → slice_get xs j ≡ Some x → f x ≡ true → list_any f (take n xs) ≡ true
   some_at [] n j x l a e = let z : ◌≡◌ {A = ℕ} 0 1 = cc in absurd (omega arith)
   some_at (y ∷ ys) zero j x l a e = absurd (omega arith)
-  some_at (y ∷ ys) (suc n) zero x l a e = or_left (f y) (some f (take n ys)) (let s : y ≡ x = cc in ap f s ∙ e)
-  some_at (y ∷ ys) (suc n) (suc j) x l a e = or_right (f y) (some f (take n ys)) (some_at ys n j x (omega arith) a e)
+  some_at (y ∷ ys) (suc n) zero x l a e = or_left (f y) (list_any f (take n ys)) (let s : y ≡ x = cc in ap f s ∙ e)
+  some_at (y ∷ ys) (suc n) (suc j) x l a e = or_right (f y) (list_any f (take n ys)) (some_at ys n j x (omega arith) a e)
 
-  some_from : (xs : List X) (n : ℕ) → some f (take n xs) ≡ true → (j : ℕ) × (j < n) × (x : X) × (slice_get xs j ≡ Some x) × (f x ≡ true)
+  some_from : (xs : List X) (n : ℕ) → list_any f (take n xs) ≡ true → (j : ℕ) × (j < n) × (x : X) × (slice_get xs j ≡ Some x) × (f x ≡ true)
   some_from [] zero e = absurd (both_ways false refl e)
   some_from [] (suc n) e = absurd (both_ways false refl e)
   some_from (y ∷ ys) zero e = absurd (both_ways false refl e)
   some_from (y ∷ ys) (suc n) e =
-      elim (or_cases (f y) (some f (take n ys)) e) [
+      elim (or_cases (f y) (list_any f (take n ys)) e) [
         | inl h ↦ (0, omega arith, y, refl, h)
         | inr t ↦ (let (j, l, x, a, h) = some_from ys n t in (suc j, omega arith, x, a, h))
       ]
@@ -88,7 +89,7 @@ module _ {X : Type 0} (f : X → Bool) where
 module _ {R P K : Type 0} (made : R → Option P) (fits : P → K → Bool) where
   pub fit_first : (rows : List R) (key : K) (r : Option ℕ) → r ≡ first_fit made fits key rows → First (FitsAt made fits rows key) r
   fit_first rows key r is =
-      subst (First (FitsAt made fits rows key)) (sym is) (first_from_lem (λ _ r. row_fits made fits key r) rows (FitsAt made fits rows key)
+      subst (First (FitsAt made fits rows key)) (sym (is ∙ position_first (row_fits made fits key) rows)) (first_from_lem (λ _ r. row_fits made fits key r) rows (FitsAt made fits rows key)
       (λ n w. let (p, (a, na, ma), e) = w in (a, na, ap (passes (λ p. fits p key)) ma ∙ e))
       (λ n a na e. let (p, ma, t) = passes_inv (λ p. fits p key) (made a) e in (p, (a, na, ma), t)))
 

@@ -2,6 +2,7 @@ pub mod Kept
 pub mod Finding
 pub mod Firsts
 pub mod Largest
+pub mod Falling
 pub mod Blocks
 pub mod Few
 pub mod Steps

@@ -7,7 +7,8 @@ use Rattle.std.proofs.lemmas.Bool.{eqb-true, eq-eqb, ltb-true, and_parts, and_fr
 use Rattle.patterns.specs.Sorts.{ternary_fits, ternary_covers, span_fits, span_covers}
 use Rattle.patterns.specs.declared.ternary.Ternary.{Ternary}
 use Rattle.patterns.specs.declared.span.Span.{Span}
-use Rattle.patterns.specs.BitLaws.{and_assoc, xor_over_and, xor_none, outside, outside_unseen, outside_kept, within_from}
+use Rattle.std.proofs.lemmas.Nat.{and_assoc}
+use Rattle.patterns.specs.BitLaws.{xor_over_and, xor_none, outside, outside_unseen, outside_kept, within_from}
 
 pub from_T : (b : Bool) → T b → b ≡ true
 from_T true t = refl
@@ -30,7 +31,7 @@ module _ (p q : Ternary) where
       let ev : bit_and q.value p.mask ≡ p.value = eqb-true _ _ both.1 in
       let ek : bit_and k q.mask ≡ q.value = eqb-true _ _ f in
       eq-eqb _ _
-      (ap (bit_and k) (sym em ∙ and_comm p.mask q.mask) ∙ sym (and_assoc k q.mask p.mask)
+      (ap (bit_and k) (sym em ∙ and_comm p.mask q.mask) ∙ sym (and_assoc p.mask k q.mask)
       ∙ ap (λ x. bit_and x p.mask) ek ∙ ev)
 
   backward : ((k : ℕ) → k < 2 ^ 32 → ternary_fits q k ≡ true → ternary_fits p k ≡ true) → ternary_covers p q ≡ true

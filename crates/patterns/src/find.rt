@@ -9,10 +9,7 @@ use crate::pattern::Pattern;
 fn row_fits<P: Pattern>(row: &P::Plain, key: P::Key) -> bool
     ensures { result ≡ row_fits P.made P.fits key row.now }
 {
-    match P::make(row) {
-        Some(pattern) => pattern.fits(key),
-        None => false,
-    }
+    P::make(row).is_some_and(|pattern| pattern.fits(key))
 }
 
 /// The place of the first row that the key fits. Where no row fits, the answer is `None`.
@@ -21,34 +18,27 @@ pub fn first_fit<P: Pattern>(rows: &[P::Plain], key: P::Key) -> Option<usize>
     ensures first { First (FitsAt P.made P.fits rows.now key) result }
     ensures within { IfSome result (λ i. i < length rows.now) }
 {
-    for (i, row) in rows.iter().enumerate() {
-        if row_fits::<P>(row, key) {
-            return Some(i);
-        }
-    }
-    None
+    place_of_fit::<P>(rows, key)
+}
+
+fn place_of_fit<P: Pattern>(rows: &[P::Plain], key: P::Key) -> Option<usize>
+    ensures { result ≡ first_fit P.made P.fits key rows.now }
+{
+    rows.iter().position(|row| row_fits::<P>(row, key))
 }
 
 /// Whether the row makes a pattern that covers the other.
 fn row_covers<P: Pattern>(row: &P::Plain, other: &P) -> bool
     ensures { result ≡ row_covers P.made P.covers other.now row.now }
 {
-    match P::make(row) {
-        Some(pattern) => pattern.covers(other),
-        None => false,
-    }
+    P::make(row).is_some_and(|pattern| pattern.covers(other))
 }
 
 /// Whether one of the rows covers the pattern.
 fn any_covers<P: Pattern>(rows: &[P::Plain], other: &P) -> bool
     ensures { result ≡ any_covers P.made P.covers other.now rows.now }
 {
-    for row in rows {
-        if row_covers::<P>(row, other) {
-            return true;
-        }
-    }
-    false
+    rows.iter().any(|row| row_covers::<P>(row, other))
 }
 
 /// Whether the row makes a pattern that one of the first `i` rows covers.
@@ -56,10 +46,7 @@ fn row_covered<P: Pattern>(rows: &[P::Plain], i: usize, row: &P::Plain) -> bool
     requires { i < length rows.now }
     ensures { result ≡ covered P.made P.covers (take i rows.now) row.now }
 {
-    match P::make(row) {
-        Some(pattern) => any_covers::<P>(&rows[0..i], &pattern),
-        None => false,
-    }
+    P::make(row).is_some_and(|pattern| any_covers::<P>(&rows[0..i], &pattern))
 }
 
 /// The place of the first row that a row before it covers, so that it never decides. Where there is none, the answer is `None`.
@@ -68,10 +55,14 @@ pub fn first_covered<P: Pattern>(rows: &[P::Plain]) -> Option<usize>
     ensures first { First (CoveredAt P.keys P.made P.fits rows.now) result }
     ensures within { IfSome result (λ i. i < length rows.now) }
 {
-    for (i, row) in rows.iter().enumerate() {
-        if row_covered::<P>(rows, i, row) {
-            return Some(i);
-        }
-    }
-    None
+    place_of_covered::<P>(rows)
+}
+
+fn place_of_covered<P: Pattern>(rows: &[P::Plain]) -> Option<usize>
+    ensures is { result ≡ first_covered P.made P.covers rows.now }
+    ensures within { IfSome result (λ i. i < length rows.now) }
+{
+    rows.iter()
+        .enumerate()
+        .position(|(i, row)| row_covered::<P>(rows, i, row))
 }

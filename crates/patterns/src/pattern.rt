@@ -69,6 +69,7 @@ impl Pattern for Ternary {
     ghost named = { ternary_named };
 
     fn make(plain: &TernaryRow) -> Option<Ternary> {
+        // By a branch and no `then`: the type's invariant is shown by the test.
         if plain.value & plain.mask == plain.value {
             Some(Ternary {
                 value: plain.value,

@@ -1,6 +1,6 @@
 // The split of a range into blocks, each a ternary row over 16 bits.
+ghost use Rattle.std.specs.List.{list_any};
 ghost use Rattle.std.specs.Prelude.{◌≡◌, ℕ, ◌+◌, ◌^◌, ◌<◌, ◌≤◌, ◌++◌, length, drop};
-ghost use Rattle.patterns.specs.Finding.{some};
 ghost use Rattle.patterns.specs.Sorts.{span_fits};
 ghost use Rattle.patterns.specs.Splitting.{SplitsInto, block_at, block_fits, block_ok, split_of, top_block};
 
@@ -15,30 +15,27 @@ fn size(k: u32) -> u32
     1 << k
 }
 
+// Two ends and no `Span`: a block is looked for at any two numbers, and only `step` needs them in order.
 /// Whether 2^k numbers from low begin at a multiple of 2^k and end by high.
-fn block_ok(low: u32, high: u32, k: u32) -> bool
-    requires { (low < 2 ^ 16) × ((high < 2 ^ 16) × (k ≤ 16)) }
+fn block_ok(low: u16, high: u16, k: u32) -> bool
+    requires { k ≤ 16 }
     ensures { result ≡ block_ok low high k }
 {
+    let (low, high) = (u32::from(low), u32::from(high));
     let n = size(k);
     low % n == 0 && low + n <= high + 1
 }
 
 /// The greatest k for which there is such a block.
-fn top_block(low: u32, high: u32) -> u32
-    requires { (low < 2 ^ 16) × (high < 2 ^ 16) }
+fn top_block(low: u16, high: u16) -> u32
     ensures { result ≡ top_block low high }
 {
-    let mut k = 16;
-    while k > 0 && !block_ok(low, high, k) {
-        k -= 1;
-    }
-    k
+    (1..17).rev().find(|k| block_ok(low, high, *k)).unwrap_or(0)
 }
 
 /// How many numbers the first block of low to high has.
-fn step(low: u32, high: u32) -> u32
-    requires { (low ≤ high) × (high < 2 ^ 16) }
+fn step(low: u16, high: u16) -> u32
+    requires { low ≤ high }
     ensures is { result ≡ 2 ^ top_block low high }
     ensures some { 0 < result }
     ensures within { low + result ≤ high + 1 }
@@ -47,12 +44,12 @@ fn step(low: u32, high: u32) -> u32
 }
 
 /// The block of so many numbers from low.
-fn block_at(low: u32, count: u32) -> Block
-    requires { (low < 2 ^ 16) × ((0 < count) × (count ≤ 2 ^ 16)) }
+fn block_at(low: u16, count: u32) -> Block
+    requires { (0 < count) × (count ≤ 2 ^ 16) }
     ensures { result ≡ block_at low count }
 {
     Block {
-        value: low as u16,
+        value: low,
         mask: (65536 - count) as u16,
     }
 }
@@ -65,14 +62,16 @@ pub fn split(span: &Span, out: &mut [Block; 30]) -> usize
     ensures room { length out.new ≡ 30 }
     ensures few { result ≤ 30 }
     ensures rule { SplitsInto span.now.low span.now.high (split_of span.now.low span.now.high) }
-    ensures same { (k : ℕ) → k < 2 ^ 16 → some (λ b. block_fits b k) (split_of span.now.low span.now.high) ≡ span_fits span.now k }
+    ensures same { (k : ℕ) → k < 2 ^ 16 → list_any (λ b. block_fits b k) (split_of span.now.low span.now.high) ≡ span_fits span.now k }
 {
     let high = span.high as u32;
     let mut low = span.low as u32;
+    // The blocks are counted by hand, in an array: the loop ends with the range and not with the array, and a device has no heap.
     let mut n = 0;
     while low <= high {
-        let count = step(low, high);
-        out[n] = block_at(low, count);
+        let from = low as u16;
+        let count = step(from, span.high);
+        out[n] = block_at(from, count);
         low += count;
         n += 1;
     }

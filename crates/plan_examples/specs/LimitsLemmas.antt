@@ -3,19 +3,20 @@ use Rattle.std.specs.Prelude.{◌≡◌, ℕ, ◌-◌, ◌<◌, ◌≤◌, false
 use Rattle.std.proofs.Common.{arith}
 use Rattle.std.proofs.lemmas.Bool.{ne_eqb}
 use Rattle.std.proofs.lemmas.List.{length_push}
-use Rattle.stores.specs.declared.listing.Listing.{Listing}
+use Rattle.stores.specs.declared.listing.Rows.{Rows}
 use Rattle.stores.specs.declared.question.Row.{Row}
+use Rattle.stores.specs.declared.tabled.Tabled.{Tabled}
 use Rattle.stores.specs.Fits.{fits}
 use Rattle.stores.specs.Meaning.{Meaning, admits, appended}
 use Rattle.stores.specs.Listings.{length_listed}
 use Rattle.stores.specs.Pairs.{admits_same}
 use Rattle.plan_examples.specs.Limits.{of_listing, limited}
 
-pub listing_length : (s : Listing) → length (of_listing s).rows ≡ s.held
-listing_length s = length_listed s.rows s.held (omega arith)
+pub listing_length : (s : Tabled Rows 512) → length (of_listing s).rows ≡ s.held
+listing_length s = length_listed s.table.rows s.held (omega arith)
 
 -- a listing with fewer rows than a limit of 512 at most takes one
-pub listing_free : (s : Listing) (limit : ℕ) → length (of_listing s).rows < limit → limit ≤ 512 → (of_listing s).takes ≢ 0
+pub listing_free : (s : Tabled Rows 512) (limit : ℕ) → length (of_listing s).rows < limit → limit ≤ 512 → (of_listing s).takes ≢ 0
 listing_free s limit room small e = omega (arith, listing_length s)
 
 module _ (m : Meaning) (limit : ℕ) (room : length m.rows < limit) (free : m.takes ≡ 0 → ⊥) where

@@ -1,5 +1,6 @@
 // Plans that are refused by 7 and 8, and at which node.
-use crate::made::{SAMPLE, line, ranges};
+use crate::made::{line, ranges};
+use examples::sample::FOUR_NODES;
 use graph_reader::read::read_graph;
 use graphs::graph::Graph;
 use plans::fault::PlanFault;
@@ -8,10 +9,7 @@ use std::test::Fail;
 
 // What a plan for a graph is refused for.
 fn fault_of(graph: &Graph, plan: &[u8]) -> Option<PlanFault> {
-    match read_plan(graph, plan) {
-        Ok(_) => None,
-        Err(fault) => Some(fault),
-    }
+    read_plan(graph, plan).err()
 }
 
 // Plans for the sample whose bytes are wrong, and the node that is told: the lowest.
@@ -45,7 +43,7 @@ const BROKEN_RULES: [([u8; 16], u8); 8] = [
 
 #[test]
 fn plans_of_the_sample_are_refused_at_their_nodes(rt: HostRuntime) -> Result<(), Fail> {
-    let Ok(graph) = read_graph(SAMPLE) else {
+    let Ok(graph) = read_graph(&FOUR_NODES) else {
         return Err(Fail::new("the sample is accepted"));
     };
     for (plan, node) in WRONG_BYTES {

@@ -10,8 +10,6 @@ use stores::listing::Listing;
 use stores::question::{Question, Row};
 use stores::store::Store;
 
-const MOST: u16 = 512;
-
 /// A listing that takes no more rows than its limit.
 #[derive(Clone, Copy)]
 pub struct Limited {
@@ -25,9 +23,10 @@ impl Limited {
     pub fn new(limit: u16) -> Limited
         ensures { limited (of_listing result.all) result.limit ≡ fresh (min limit 512) }
     {
+        let all = Listing::new();
         Limited {
-            all: Listing::new(),
-            limit: limit.min(MOST),
+            all,
+            limit: limit.min(all.capacity()),
         }
     }
 }

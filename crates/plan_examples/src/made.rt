@@ -3,23 +3,6 @@ use graphs::graph::{Graph, Length, NODES, Node, ROWS, Rows};
 use headers::kinds::Kind;
 use patterns::row::{RangeRow, Target, TernaryRow};
 
-// The file of the sample graph, Ethernet, a VLAN tag, IPv4 and TCP: count and pairs, then the records,
-// each row of them on a line of its own.
-pub(crate) const SAMPLE: &[u8; 162] = b"\
-    \x04\x00\x00\x12\x00\x2e\x00\x40\x00\x24\x00\x64\x00\x24\x00\x88\x00\x1a\
-    \x00\x00\x0e\x00\x00\x00\x00\x00\x02\x0c\x0d\x00\x00\x00\x03\x00\
-    \x81\x00\x00\x00\xff\xff\x00\x00\x00\x01\
-    \x08\x00\x00\x00\xff\xff\x00\x00\x00\x02\
-    \x00\x00\x00\x00\x00\x00\x00\x00\x02\x00\
-    \x01\x00\x04\x00\x00\x00\x00\x00\x02\x02\x03\x00\x00\x00\x02\x00\
-    \x08\x00\x00\x00\xff\xff\x00\x00\x00\x02\
-    \x00\x00\x00\x00\x00\x00\x00\x00\x01\x00\
-    \x03\x01\x00\x0f\x00\x04\x00\x00\x03\x06\x07\x09\x00\x00\x02\x00\
-    \x00\x00\x06\x00\x1f\xff\xff\x00\x00\x03\
-    \x00\x00\x00\x00\x00\x00\x00\x00\x01\x00\
-    \x05\x01\x0c\xf0\x04\x04\x00\x00\x00\x00\x00\x00\x00\x00\x01\x00\
-    \x00\x00\x00\x00\x00\x00\x00\x00\x01\x00";
-
 // A header of one byte, which looks at so many bytes from its first on.
 fn node(places: u8, row_count: u8, rows: Rows) -> Node {
     Node {
@@ -50,10 +33,8 @@ pub(crate) fn listed(count: u8) -> Node {
         target: Target::Done,
     };
     let mut rows = [row; ROWS];
-    let mut value: u32 = 0;
-    for row in rows.iter_mut() {
-        row.value = value;
-        value = value.wrapping_add(0x0100_0000);
+    for (row, value) in rows.iter_mut().zip(0..=255) {
+        row.value = u32::from_be_bytes([value, 0, 0, 0]);
     }
     node(1, count, Rows::Ternary(rows))
 }

@@ -1,8 +1,9 @@
 // How many rows graph and plan need, and which stores can hold them.
 use crate::limited::Limited;
-use crate::made::{SAMPLE, ranges, wide};
+use crate::made::{ranges, wide};
 use compiler::compile::compile;
 use compiler::program::Program;
+use examples::sample::FOUR_NODES;
 use graph_writer::write::write_graph;
 use graphs::graph::Graph;
 use refusals::refusal::{Layer, Refusal};
@@ -13,29 +14,20 @@ use stores::store::Store;
 
 // A file and a plan, loaded into a store: the rows that it then holds, or the refusal.
 fn loaded<S: Store>(file: &[u8], plan: &[u8], store: &mut S) -> Result<u16, Refusal> {
-    match compile(file, plan, store, &mut Program::none()) {
-        Ok(_) => Ok(store.held()),
-        Err(fault) => Err(fault.refusal()),
-    }
+    compile(file, plan, store, &mut Program::none()).map_err(Refusal::from)?;
+    Ok(store.held())
 }
 
 // The same for a graph.
 fn loaded_graph<S: Store>(graph: &Graph, plan: &[u8], store: &mut S) -> Result<u16, Refusal> {
     let mut file = [0; 5762];
-    match write_graph(graph, &mut file) {
-        Ok(size) => loaded(&file[0..size.min(5762)], plan, store),
-        Err(fault) => Err(fault.refusal()),
-    }
+    let size = write_graph(graph, &mut file).map_err(Refusal::from)?;
+    loaded(&file[..size.min(5762)], plan, store)
 }
 
 // Number 9, at the rows that are needed.
 fn too_many(rows: u16) -> Result<u16, Refusal> {
-    Err(Refusal {
-        number: 9,
-        layer: Layer::Store,
-        first: rows,
-        second: 0,
-    })
+    Err(Refusal::at(9, Layer::Store, rows, 0))
 }
 
 // The bytes with which the plan of the sample begins, a store's capacity, the rows that are needed,
@@ -55,7 +47,7 @@ fn the_sample_needs_eight_rows_and_with_its_plan_thirteen(rt: HostRuntime) {
         let plan = [count, behind, 0, 0, 0, 0, 0, 0, 0, 0, 0, 0, 0, 0, 0, 0];
         let expected = if serves { Ok(rows) } else { too_many(rows) };
         assert_eq!(rt;
-            loaded(SAMPLE, &plan, &mut Limited::new(capacity)),
+            loaded(&FOUR_NODES, &plan, &mut Limited::new(capacity)),
             expected
         );
     }

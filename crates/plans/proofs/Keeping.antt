@@ -1,9 +1,9 @@
 -- The test of the rules says what the rules say.
+use Rattle.std.specs.List.{list_any}
 use Rattle.std.proofs.Common.{◌≡◌, ℕ, zero, suc, ◌+◌, ◌-◌, ◌<◌, ◌≤◌, Bool, true, false, ◌&&◌, leb, List, [], ◌∷◌, length, get_or, sym, refl, ap, ◌∙◌, inl, inr, arith}
 use Rattle.std.proofs.lemmas.Bool.{and_parts, and_from, or_cases, or_left, or_right, leb-true, le-leb, eqb-true, eq-eqb, both_ways}
 use Rattle.patterns.specs.declared.row.Target.{Target}
 use Rattle.patterns.specs.declared.row.Target.TheVariants as to
-use Rattle.patterns.specs.Finding.{some}
 use Rattle.graphs.specs.declared.graph.Length.{Length}
 use Rattle.graphs.specs.declared.graph.Length.TheVariants.{Fixed, Counted}
 use Rattle.graphs.specs.View.{RowsView, ternary_rows, range_rows, NodeView, node_at}
@@ -27,17 +27,17 @@ leads_told : (c : ℕ) (t : Target) → t ≡ to.Node c → leads_to c t ≡ tru
 leads_told c t e = ap (leads_to c) e ∙ eq-eqb c c refl
 
 -- some element passes a test exactly if one at a place does
-some_says : {X : Type 0} (f : X → Bool) (d : X) (xs : List X) → some f xs ≡ true → (k : ℕ) × (k < length xs) × (f (get_or xs k d) ≡ true)
+some_says : {X : Type 0} (f : X → Bool) (d : X) (xs : List X) → list_any f xs ≡ true → (k : ℕ) × (k < length xs) × (f (get_or xs k d) ≡ true)
 some_says f d [] e = absurd (both_ways false refl e)
-some_says f d (x ∷ xs) e = elim (or_cases (f x) (some f xs) e) [
+some_says f d (x ∷ xs) e = elim (or_cases (f x) (list_any f xs) e) [
   | inl h ↦ (0, omega arith, h)
   | inr h ↦ let (k, l, p) = some_says f d xs h in (suc k, omega arith, p)
 ]
 
-some_told : {X : Type 0} (f : X → Bool) (d : X) (xs : List X) (k : ℕ) → k < length xs → f (get_or xs k d) ≡ true → some f xs ≡ true
+some_told : {X : Type 0} (f : X → Bool) (d : X) (xs : List X) (k : ℕ) → k < length xs → f (get_or xs k d) ≡ true → list_any f xs ≡ true
 some_told f d [] k h e = absurd (omega arith)
-some_told f d (x ∷ xs) zero h e = or_left (f x) (some f xs) e
-some_told f d (x ∷ xs) (suc k) h e = or_right (f x) (some f xs) (some_told f d xs k (omega arith) e)
+some_told f d (x ∷ xs) zero h e = or_left (f x) (list_any f xs) e
+some_told f d (x ∷ xs) (suc k) h e = or_right (f x) (list_any f xs) (some_told f d xs k (omega arith) e)
 
 target_says : (c : ℕ) (rows : RowsView) → any_to c rows ≡ true → IsTarget rows c
 target_says c (ternary_rows rs) e =

@@ -1,7 +1,8 @@
 -- What reading tells of a plan is its least fault.
+use Rattle.std.specs.Option.{option_or}
 use Rattle.std.proofs.Common.{◌≡◌, ℕ, zero, suc, ◌+◌, ◌*◌, ◌<◌, ◌≤◌, Bool, true, false, ◌&&◌, ◌||◌, eqb, ltb, leb, ◌⊎◌, List, length, get_or, IfOk, None, Ok, Err, Result, sym, refl, ap, subst, inl, inr, arith}
 use Rattle.std.proofs.lemmas.Bool.{and_parts, and_cases, or_cases, or_parts, cases_Bool, both_ways, leb-true, leb-false, ltb-true, ltb-false, eqb-true, eqb-false}
-use Rattle.refusals.specs.Searching.{or_else, unless, fault_of}
+use Rattle.refusals.specs.Searching.{unless, fault_of}
 use Rattle.refusals.specs.Least.{NotAfter, Answers}
 use Rattle.refusals.proofs.Lowest.{Lowest, lowest_like, lowest_or, lowest_of, lowest_unless, lower}
 use Rattle.refusals.proofs.Searching.{or_else_none, holds}
@@ -101,7 +102,7 @@ module _ (g : List NodeView) (bytes : List ℕ) where
         broken : (n : ℕ) → (Keeps g n (chain_in bytes n) → ⊥) → keeps g n (chain_in bytes n) ≡ false
         broken n w = elim (cases_Bool (keeps g n (chain_in bytes n))) [ inl t ↦ absurd (w (keeps_says g n (chain_in bytes n) t)) | inr e ↦ e ]
 
-    right_lowest : Lowest ahead (PlanApplies g bytes) (or_else (chains_fault (length g) bytes) (rules_fault g (chain_in bytes) (length g)))
+    right_lowest : Lowest ahead (PlanApplies g bytes) (option_or (chains_fault (length g) bytes) (rules_fault g (chain_in bytes) (length g)))
     right_lowest =
         lowest_like ahead Told (PlanApplies g bytes) spoken applied _
         (lowest_or ahead (Among ChainTold) (Among RuleTold)
@@ -116,16 +117,16 @@ module _ (g : List NodeView) (bytes : List ℕ) where
 
   pub plan_lowest : Lowest ahead (PlanApplies g bytes) (plan_fault g bytes)
   plan_lowest = elim (cases_Bool (eqb (length bytes) (4 * length g))) [
-    | inl t ↦ subst (λ b. Lowest ahead (PlanApplies g bytes) (or_else (unless b (Shape (length g))) (or_else (chains_fault (length g) bytes) (rules_fault g (chain_in bytes) (length g)))))
+    | inl t ↦ subst (λ b. Lowest ahead (PlanApplies g bytes) (option_or (unless b (Shape (length g))) (option_or (chains_fault (length g) bytes) (rules_fault g (chain_in bytes) (length g)))))
         (sym t) (right_lowest (eqb-true _ _ t))
-    | inr e ↦ subst (λ b. Lowest ahead (PlanApplies g bytes) (or_else (unless b (Shape (length g))) (or_else (chains_fault (length g) bytes) (rules_fault g (chain_in bytes) (length g)))))
+    | inr e ↦ subst (λ b. Lowest ahead (PlanApplies g bytes) (option_or (unless b (Shape (length g))) (option_or (chains_fault (length g) bytes) (rules_fault g (chain_in bytes) (length g)))))
         (sym e) (size (eqb-false _ _ e) refl, size_first (eqb-false _ _ e))
   ]
 
   -- no fault: every chain keeps the rules
   pub lawful : plan_fault g bytes ≡ None → Lawful g (chain_in bytes)
   lawful e n h =
-      let rest = (or_else_none (size_fault (length g) bytes) (or_else (chains_fault (length g) bytes) (rules_fault g (chain_in bytes) (length g))) e).1 in
+      let rest = (or_else_none (size_fault (length g) bytes) (option_or (chains_fault (length g) bytes) (rules_fault g (chain_in bytes) (length g))) e).1 in
       let rules = (or_else_none (chains_fault (length g) bytes) (rules_fault g (chain_in bytes) (length g)) rest).1 in
       keeps_says g n (chain_in bytes n) (holds (λ n. keeps g n (chain_in bytes n)) Rule (length g) n rules h)
 

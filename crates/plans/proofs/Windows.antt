@@ -1,15 +1,18 @@
--- The window, node by node.
-use Rattle.std.proofs.Common.{◌≡◌, ℕ, ◌+◌, ◌-◌, ◌<◌, max, List, [], ◌∷◌, length, get_or, take, drop, sym, ap, ap₂, arith}
-use Rattle.graphs.specs.View.{NodeView, node_at}
-use Rattle.walks.specs.Plans.{fixed_size, span, window}
-use Rattle.plans.proofs.Slicing.{rest_is}
+-- How far places reach.
+use Rattle.std.proofs.Common.{◌≡◌, ℕ, suc, ◌+◌, max, List, [], ◌∷◌, Some, None, Option, Bor, sym, refl, ◌∙◌, subst, arith}
+use Rattle.std.specs.List.{fold, reduce}
+use Rattle.std.specs.Option.{MatchOption, option_map}
+use Rattle.walks.specs.Plans.{reach}
 
-module _ (g : List NodeView) (n : ℕ) (v : NodeView) (at : v ≡ node_at g n) where
-  pub window_last : (cs : List ℕ) → length cs ≡ 0 → window g n cs ≡ span v
-  window_last [] e = ap span (sym at)
-  window_last (c ∷ cs) e = absurd (omega arith)
+-- one more than the highest place
+over_fold : (a : ℕ) (xs : List ℕ) → fold max a xs + 1 ≡ max (suc a) (reach xs)
+over_fold a [] = omega arith
+over_fold a (x ∷ xs) = omega (arith, over_fold (max a x) xs)
 
-  pub window_more : (cs : List ℕ) → 0 < length cs
-      → window g n cs ≡ max (span v) (fixed_size v.len + window g (get_or cs 0 0) (take (length cs - 1) (drop 1 cs)))
-  window_more [] e = absurd (omega arith)
-  window_more (c ∷ cs) e = ap₂ (λ x w. max (span x) (fixed_size x.len + w)) (sym at) (ap (window g c) (sym (rest_is (c ∷ cs))))
+highest : (xs : List ℕ) → MatchOption (reduce max xs) (reach xs ≡ 0) (λ m. reach xs ≡ m + 1)
+highest [] = refl
+highest (x ∷ xs) = sym (over_fold x xs)
+
+pub reach_is : (xs : List ℕ) (o : Option (Bor ℕ)) (r : ℕ) → option_map (λ x. x.now) o ≡ reduce max xs → MatchOption o (r ≡ 0) (λ x. r ≡ x.now + 1) → r ≡ reach xs
+reach_is xs None r e h = h ∙ sym (subst (λ o. MatchOption o (reach xs ≡ 0) (λ m. reach xs ≡ m + 1)) (sym e) (highest xs))
+reach_is xs (Some x) r e h = h ∙ sym (subst (λ o. MatchOption o (reach xs ≡ 0) (λ m. reach xs ≡ m + 1)) (sym e) (highest xs))

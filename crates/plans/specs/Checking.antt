@@ -1,7 +1,8 @@
 -- The checks of a plan as tests, and the first fault that they find. `Refusals` says the same in words.
-use Rattle.std.specs.Prelude.{ℕ, ◌+◌, ◌-◌, ◌*◌, Bool, true, false, ◌&&◌, ◌||◌, List, [], ◌∷◌, length, Option, ◌==◌, nat_le, nat_lt, slice_index}
-use Rattle.refusals.specs.Searching.{or_else, first_told, unless}
-use Rattle.patterns.specs.Finding.{some}
+use Rattle.std.specs.List.{list_any}
+use Rattle.std.specs.Option.{option_or}
+use Rattle.std.specs.Prelude.{ℕ, ◌-◌, ◌*◌, Bool, true, false, ◌&&◌, ◌||◌, List, [], ◌∷◌, length, Option, ◌==◌, nat_le, nat_lt, slice_index}
+use Rattle.refusals.specs.Searching.{first_told, unless}
 use Rattle.graphs.specs.declared.graph.Length.{Length}
 use Rattle.graphs.specs.declared.graph.Length.TheVariants.{Fixed, Counted}
 use Rattle.graphs.specs.View.{RowsView, ternary_rows, range_rows, NodeView, node_at}
@@ -24,13 +25,8 @@ is_fixed (Counted place mask shift unit base) = false
 
 -- some row leads to node c
 abbrev pub any_to : ℕ → RowsView → Bool
-any_to c (ternary_rows rs) = some (λ r. leads_to c r.target) rs
-any_to c (range_rows rs) = some (λ r. leads_to c r.target) rs
-
--- a number of each element, summed up
-abbrev pub sum_of : {X : Type 0} → (X → ℕ) → List X → ℕ
-sum_of f [] = 0
-sum_of f (x ∷ xs) = f x + sum_of f xs
+any_to c (ternary_rows rs) = list_any (λ r. leads_to c r.target) rs
+any_to c (range_rows rs) = list_any (λ r. leads_to c r.target) rs
 
 -- node n and those behind it have fixed lengths, each next one is a target of the one before, and `room` lookup bytes are enough
 abbrev pub ruled : List NodeView → ℕ → ℕ → List ℕ → Bool
@@ -58,4 +54,4 @@ rules_fault g chain count = first_told (λ n. unless (keeps g n (chain n)) (Rule
 
 -- what is wrong with a plan for a graph
 abbrev pub plan_fault : List NodeView → List ℕ → Option PlanFault
-plan_fault g bytes = or_else (size_fault (length g) bytes) (or_else (chains_fault (length g) bytes) (rules_fault g (chain_in bytes) (length g)))
+plan_fault g bytes = option_or (size_fault (length g) bytes) (option_or (chains_fault (length g) bytes) (rules_fault g (chain_in bytes) (length g)))

@@ -1,6 +1,6 @@
 // A plan in memory.
 ghost use Rattle.std.specs.Prelude.{◌≡◌, ℕ, ◌≤◌, [], length};
-ghost use Rattle.plans.specs.Chains.{nodes_of, chain_of};
+ghost use Rattle.plans.specs.Chains.{nodes_of, chain_of, chain_at};
 
 use graphs::graph::NODES;
 use graphs::named::named;
@@ -9,6 +9,7 @@ use graphs::named::named;
 pub const BEHIND: usize = 3;
 
 /// The nodes behind a node that are taken in one look with it: as many as are counted.
+// An array with its count: a plan's byte may say more than there are, and that is refused by 7.
 #[derive(Clone, Copy)]
 pub struct Chain {
     pub count: u8,
@@ -42,6 +43,19 @@ impl Chain {
     }
 }
 
+/// The chain that a node's four bytes say: how many nodes are behind it, and three nodes.
+impl From<[u8; 4]> for Chain {
+    ghost from_gives = { λ four r. r ≡ chain_at four 0 };
+
+    fn from(four: [u8; 4]) -> Chain {
+        let [count, a, b, c] = four;
+        Chain {
+            count,
+            nodes: [a, b, c],
+        }
+    }
+}
+
 impl Chains {
     /// The plan without chains.
     pub fn none() -> Chains
@@ -57,10 +71,9 @@ impl Chains {
     pub fn chain(&self, node: u8) -> Chain
         ensures { nodes_of result ≡ chain_of self.now node }
     {
-        let chains: &[Chain] = &self.chains;
-        match chains.get(node as usize) {
-            Some(chain) => *chain,
-            None => Chain::none(),
-        }
+        self.chains
+            .get(node as usize)
+            .copied()
+            .unwrap_or(Chain::none())
     }
 }

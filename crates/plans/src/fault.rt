@@ -11,25 +11,14 @@ pub enum PlanFault {
     Rule { node: u8 },
 }
 
-impl PlanFault {
-    /// The fault's number, layer and place.
-    pub fn refusal(self) -> Refusal
-        ensures { result ≡ of_plan self }
-    {
-        match self {
-            PlanFault::Shape { node } => Self::at(7, node),
-            PlanFault::Rule { node } => Self::at(8, node),
-        }
-    }
+/// The fault's number, layer and place.
+impl From<PlanFault> for Refusal {
+    ghost from_gives = { λ fault refusal. refusal ≡ of_plan fault };
 
-    fn at(number: u8, node: u8) -> Refusal
-        ensures { result ≡ record { number = number; layer = Layer.Plan; first = node; second = 0 } }
-    {
-        Refusal {
-            number,
-            layer: Layer::Plan,
-            first: node as u16,
-            second: 0,
+    fn from(fault: PlanFault) -> Refusal {
+        match fault {
+            PlanFault::Shape { node } => Refusal::at(7, Layer::Plan, u16::from(node), 0),
+            PlanFault::Rule { node } => Refusal::at(8, Layer::Plan, u16::from(node), 0),
         }
     }
 }

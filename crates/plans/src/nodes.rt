@@ -1,91 +1,33 @@
-// A node of a graph, and what its rows are to a plan.
-ghost use Rattle.std.specs.Prelude.{◌≡◌, ℕ, ◌+◌, ◌*◌, ◌≤◌, [], length, if◌then◌else◌};
-ghost use Rattle.patterns.specs.Finding.{some};
+// What a node's rows are to a plan.
+ghost use Rattle.std.specs.Prelude.{◌≡◌, ℕ, ◌≤◌, length, filter};
+ghost use Rattle.std.specs.List.{list_any, sum_by};
 ghost use Rattle.patterns.specs.Splitting.{split_of};
 ghost use Rattle.patterns.specs.declared.row.Target.{Target as Goal};
-ghost use Rattle.graphs.specs.View.{node_view, graph_view, node_at};
+ghost use Rattle.graphs.specs.View.{node_view};
 ghost use Rattle.walks.specs.Rows.{leads_to};
 ghost use Rattle.walks.specs.Plans.{piece_count, pieces_to};
-ghost use Rattle.plans.specs.Checking.{is_fixed, any_to, sum_of};
+ghost use Rattle.plans.specs.Checking.{is_fixed, any_to};
 
-use graphs::graph::{Graph, Length, Node, PLACES, ROWS, Rows};
+use graphs::graph::{Length, Node, Rows};
 use graphs::named::named;
-use headers::kinds::Kind;
 use patterns::block::Block;
+use patterns::pattern::Pattern;
 use patterns::row::{RangeRow, Target, TernaryRow};
 use patterns::span::Span;
 use patterns::split::split;
-
-/// How many nodes the graph's count names.
-pub fn node_total(graph: &Graph) -> u8
-    ensures is { result ≡ length (graph_view graph.now) }
-    ensures few { result ≤ 32 }
-{
-    graph.named_nodes().len() as u8
-}
-
-/// The node of a number. Past the graph's nodes it is one of a fixed length 0 that looks up nothing
-/// and has no rows.
-pub fn node_at(graph: &Graph, node: u8) -> Node
-    ensures { node_view result ≡ node_at (graph_view graph.now) node }
-{
-    match graph.named_nodes().get(node as usize) {
-        Some(node) => *node,
-        None => blank(),
-    }
-}
-
-// What stands past the graph's nodes.
-fn blank() -> Node
-    ensures { node_view result ≡ node_at [] 0 }
-{
-    Node {
-        kind: Kind::Ethernet,
-        length: Length::Fixed(0),
-        place_count: 0,
-        places: [0; PLACES],
-        row_count: 0,
-        rows: Rows::Ternary([TernaryRow {
-            value: 0,
-            mask: 0,
-            target: Target::Done,
-        }; ROWS]),
-    }
-}
-
-/// The lookup places that the node's count names.
-pub fn places_of(node: &Node) -> &[u8]
-    ensures is { result.now ≡ (node_view node.now).places }
-    ensures few { length result.now ≤ 4 }
-{
-    named(&node.places, node.place_count)
-}
 
 // Whether a length is fixed.
 pub(crate) fn is_fixed(length: Length) -> bool
     ensures { result ≡ is_fixed length }
 {
-    match length {
-        Length::Fixed(_) => true,
-        Length::Counted {
-            place: _,
-            mask: _,
-            shift: _,
-            unit: _,
-            base: _,
-        } => false,
-    }
+    matches!(length, Length::Fixed(_))
 }
 
 /// Whether a target is the node of a number.
 pub fn leads_to(node: u8, target: Target) -> bool
     ensures { result ≡ leads_to node target }
 {
-    match target {
-        Target::Node(to) => node == to,
-        Target::Done => false,
-        Target::Dropped => false,
-    }
+    matches!(target, Target::Node(to) if node == to)
 }
 
 // Whether some row of the node leads to another.
@@ -99,9 +41,9 @@ pub(crate) fn any_to(node: &Node, to: u8) -> bool
 }
 
 // How many ternary rows the node's rows are: a range is as many as it has blocks.
+#[tactic(auto, using(crate::proofs::Rowing::sum_ones, crate::proofs::Rowing::sum_blocks))]
 pub(crate) fn piece_count(node: &Node) -> u32
-    ensures is { result ≡ piece_count (node_view node.now).rows }
-    ensures few { result ≤ 480 }
+    ensures { result ≡ piece_count (node_view node.now).rows }
 {
     match &node.rows {
         Rows::Ternary(rows) => pieces_in(named(rows, node.row_count)),
@@ -111,8 +53,7 @@ pub(crate) fn piece_count(node: &Node) -> u32
 
 // How many of them lead to another node.
 pub(crate) fn pieces_to(node: &Node, to: u8) -> u32
-    ensures is { result ≡ pieces_to to (node_view node.now).rows }
-    ensures few { result ≤ 480 }
+    ensures { result ≡ pieces_to to (node_view node.now).rows }
 {
     match &node.rows {
         Rows::Ternary(rows) => pieces_in_to(named(rows, node.row_count), to),
@@ -120,7 +61,8 @@ pub(crate) fn pieces_to(node: &Node, to: u8) -> u32
     }
 }
 
-// A row of either sort.
+// A row of either sort. Each match on a node's rows above has two arms with one text: the rows of the
+// arms differ in type, so what is done with them is a generic function and no closure.
 trait AnyRow: Copy {
     // Where it leads.
     ghost goal: { Self → Goal };
@@ -128,11 +70,11 @@ trait AnyRow: Copy {
     // How many ternary rows it is.
     ghost size: { Self → ℕ };
 
-    fn goal(&self) -> Target
-        ensures { result ≡ goal self.now };
+    fn goal(self) -> Target
+        ensures { result ≡ goal self };
 
-    fn size(&self) -> u32
-        ensures is { result ≡ size self.now }
+    fn size(self) -> u32
+        ensures is { result ≡ size self }
         ensures few { result ≤ 30 };
 }
 
@@ -141,11 +83,11 @@ impl AnyRow for TernaryRow {
 
     ghost size = { λ r. 1 };
 
-    fn goal(&self) -> Target {
+    fn goal(self) -> Target {
         self.target
     }
 
-    fn size(&self) -> u32 {
+    fn size(self) -> u32 {
         1
     }
 }
@@ -155,56 +97,38 @@ impl AnyRow for RangeRow {
 
     ghost size = { λ r. length (split_of r.low r.high) };
 
-    fn goal(&self) -> Target {
+    fn goal(self) -> Target {
         self.target
     }
 
-    fn size(&self) -> u32 {
-        if self.low > self.high {
+    #[tactic(auto, using(crate::proofs::Rowing::span_blocks))]
+    fn size(self) -> u32 {
+        let Some(span) = Span::make(&self) else {
             return 0;
-        }
-        let span = Span {
-            low: self.low,
-            high: self.high,
         };
         split(&span, &mut [Block { value: 0, mask: 0 }; 30]) as u32
     }
 }
 
 fn any_row_to<R: AnyRow>(rows: &[R], to: u8) -> bool
-    ensures { result ≡ some (λ x. leads_to to (R.AnyRow.goal x)) rows.now }
+    ensures { result ≡ list_any (λ x. leads_to to (R.AnyRow.goal x)) rows.now }
 {
-    for k in 0..rows.len() {
-        if leads_to(to, rows[k].goal()) {
-            return true;
-        }
-    }
-    false
+    rows.iter().any(|row| leads_to(to, row.goal()))
 }
 
 fn pieces_in<R: AnyRow>(rows: &[R]) -> u32
     requires { length rows.now ≤ 16 }
-    ensures is { result ≡ sum_of R.AnyRow.size rows.now }
-    ensures few { result ≤ 480 }
+    ensures { result ≡ sum_by R.AnyRow.size rows.now }
 {
-    let mut sum = 0;
-    for k in 0..rows.len() {
-        sum += rows[k].size();
-    }
-    sum
+    rows.iter().map(|row| row.size()).sum()
 }
 
 fn pieces_in_to<R: AnyRow>(rows: &[R], to: u8) -> u32
     requires { length rows.now ≤ 16 }
-    ensures is { result ≡ sum_of (λ x. (if leads_to to (R.AnyRow.goal x) then R.AnyRow.size x else 0)) rows.now }
-    ensures few { result ≤ 480 }
+    ensures { result ≡ sum_by R.AnyRow.size (filter (λ x. leads_to to (R.AnyRow.goal x)) rows.now) }
 {
-    let mut sum = 0;
-    for k in 0..rows.len() {
-        let row = rows[k];
-        if leads_to(to, row.goal()) {
-            sum += row.size();
-        }
-    }
-    sum
+    rows.iter()
+        .filter(|row| leads_to(to, row.goal()))
+        .map(|row| row.size())
+        .sum()
 }

@@ -1,16 +1,18 @@
 // Reading a plan.
-ghost use Rattle.std.specs.Prelude.{◌≡◌, ◌+◌, ◌*◌, ◌<◌, ◌≤◌, length, IfOk};
+ghost use Rattle.std.specs.Prelude.{◌≡◌, ◌==◌, ◌*◌, ◌≤◌, length, IfOk};
+ghost use Rattle.std.specs.List.{list_all};
 ghost use Rattle.refusals.specs.Searching.{fault_of};
 ghost use Rattle.refusals.specs.Least.{Answers};
 ghost use Rattle.graphs.specs.View.{graph_view};
-ghost use Rattle.plans.specs.Chains.{chain_at, chain_in, chain_of};
+ghost use Rattle.plans.specs.Chains.{chain_in, chain_of};
 ghost use Rattle.plans.specs.Faults.{of_plan};
 ghost use Rattle.plans.specs.Refusals.{PlanApplies, Says};
 ghost use Rattle.plans.specs.Checking.{chain_right, ruled, keeps, size_fault, chains_fault, rules_fault, plan_fault};
 
 use crate::chains::{Chain, Chains};
 use crate::fault::PlanFault;
-use crate::nodes::{any_to, is_fixed, node_at, node_total, places_of};
+use crate::nodes::{any_to, is_fixed};
+use crate::path::Path;
 use graphs::graph::Graph;
 
 /// The bytes of a key: as many lookup bytes may a node and its chain have together.
@@ -23,17 +25,9 @@ pub fn read_plan(graph: &Graph, bytes: &[u8]) -> Result<Chains, PlanFault>
     ensures is { fault_of result ≡ plan_fault (graph_view graph.now) bytes.now }
     ensures answers { Answers of_plan (PlanApplies (graph_view graph.now) bytes.now) (Says (graph_view graph.now) bytes.now) result }
 {
-    first_fault_or_chains(graph, bytes)
-}
-
-fn first_fault_or_chains(graph: &Graph, bytes: &[u8]) -> Result<Chains, PlanFault>
-    ensures is { fault_of result ≡ plan_fault (graph_view graph.now) bytes.now }
-    ensures says { IfOk result (λ chains. chain_of chains ≡ chain_in bytes.now) }
-{
-    let count = node_total(graph);
-    check_size(count, bytes)?;
-    let chains = chains_in(count, bytes)?;
-    check_rules(graph, count, &chains)?;
+    check_size(graph.size(), bytes)?;
+    let chains = chains_in(graph.size(), bytes)?;
+    check_rules(graph, &chains)?;
     Ok(chains)
 }
 
@@ -47,30 +41,24 @@ fn check_size(count: u8, bytes: &[u8]) -> Result<(), PlanFault>
     Ok(())
 }
 
-// The four bytes of a node.
-fn chain_at(bytes: &[u8], node: u8) -> Chain
-    requires { 4 * node + 3 < length bytes.now }
-    ensures { result ≡ chain_at bytes.now node }
-{
-    let at = 4 * node as usize;
-    Chain {
-        count: bytes[at],
-        nodes: [bytes[at + 1], bytes[at + 2], bytes[at + 3]],
+impl Chain {
+    // Whether the count is in its range and each byte behind the nodes that it names is zero.
+    fn is_right(&self) -> bool
+        ensures { result ≡ chain_right self.now }
+    {
+        self.nodes.get(self.count as usize..).is_some_and(all_zero)
     }
 }
 
-// Whether the count is in its range and each byte behind the nodes that it names is zero.
-fn chain_right(chain: &Chain) -> bool
-    ensures { result ≡ chain_right chain.now }
+// Whether each of the bytes is zero.
+fn all_zero(bytes: &[u8]) -> bool
+    ensures { result ≡ list_all (λ byte. byte == 0) bytes.now }
 {
-    let [a, b, c] = chain.nodes;
-    chain.count <= 3
-        && (0 < chain.count || a == 0)
-        && (1 < chain.count || b == 0)
-        && (2 < chain.count || c == 0)
+    bytes.iter().all(|byte| *byte == 0)
 }
 
-// The chains that the bytes say. Refused by 7: the first node whose bytes are wrong.
+// The chains that the bytes say, four bytes for each node. Refused by 7: the first node whose bytes
+// are wrong.
 fn chains_in(count: u8, bytes: &[u8]) -> Result<Chains, PlanFault>
     requires few { count ≤ 32 }
     requires size { length bytes.now ≡ 4 * count }
@@ -78,53 +66,51 @@ fn chains_in(count: u8, bytes: &[u8]) -> Result<Chains, PlanFault>
     ensures says { IfOk result (λ chains. chain_of chains ≡ chain_in bytes.now) }
 {
     let mut plan = Chains::none();
-    for n in 0..count {
-        let chain = chain_at(bytes, n);
-        if !chain_right(&chain) {
-            return Err(PlanFault::Shape { node: n });
+    let (fours, _) = bytes.as_chunks::<4>();
+    // By place: of a loop over `iter_mut` zipped with the fours no invariant can name the chains.
+    for (node, four) in fours.iter().enumerate() {
+        let chain = Chain::from(*four);
+        if !chain.is_right() {
+            return Err(PlanFault::Shape { node: node as u8 });
         }
-        plan.chains[n as usize] = chain;
+        plan.chains[node] = chain;
     }
     Ok(plan)
 }
 
 // Refused by 8: the first node whose chain breaks a rule.
-fn check_rules(graph: &Graph, count: u8, chains: &Chains) -> Result<(), PlanFault>
-    ensures { fault_of result ≡ rules_fault (graph_view graph.now) (chain_of chains.now) count }
+fn check_rules(graph: &Graph, chains: &Chains) -> Result<(), PlanFault>
+    ensures { fault_of result ≡ rules_fault (graph_view graph.now) (chain_of chains.now) (length (graph_view graph.now)) }
 {
-    for n in 0..count {
-        let chain = chains.chain(n);
-        if !keeps_rules(graph, n, chain.named_nodes()) {
-            return Err(PlanFault::Rule { node: n });
+    for node in 0..graph.size() {
+        let chain = chains.chain(node);
+        if !Path::new(graph, node, chain.named_nodes()).keeps_rules() {
+            return Err(PlanFault::Rule { node });
         }
     }
     Ok(())
 }
 
-// Whether a node and its chain keep the rules; a node without a chain breaks none.
-fn keeps_rules(graph: &Graph, node: u8, chain: &[u8]) -> bool
-    ensures { result ≡ keeps (graph_view graph.now) node chain.now }
-{
-    chain.len() == 0 || ruled(graph, KEY, node, chain)
-}
+impl<'a> Path<'a> {
+    // Whether the node and its chain keep the rules; a node without a chain breaks none.
+    fn keeps_rules(&self) -> bool
+        ensures { result ≡ keeps (graph_view self.now.graph.now) self.now.node self.now.behind.now }
+    {
+        self.behind.is_empty() || self.ruled(KEY)
+    }
 
-// Whether a node and the chain behind it keep the rules, where `room` lookup bytes are free.
-fn ruled(graph: &Graph, room: usize, node: u8, chain: &[u8]) -> bool
-    ensures { result ≡ ruled (graph_view graph.now) room node chain.now }
-{
-    let here = node_at(graph, node);
-    let width = places_of(&here).len();
-    if !is_fixed(here.length) {
-        return false;
+    // Whether the node and the nodes behind it keep the rules, where `room` lookup bytes are free.
+    fn ruled(&self, room: usize) -> bool
+        ensures { result ≡ ruled (graph_view self.now.graph.now) room self.now.node self.now.behind.now }
+    {
+        let here = self.here();
+        let width = here.lookup().len();
+        if !is_fixed(here.length) || width > room {
+            return false;
+        }
+        match self.rest() {
+            None => true,
+            Some(rest) => any_to(&here, rest.node) && rest.ruled(room - width),
+        }
     }
-    if width > room {
-        return false;
-    }
-    if chain.len() == 0 {
-        return true;
-    }
-    if !any_to(&here, chain[0]) {
-        return false;
-    }
-    ruled(graph, room - width, chain[0], &chain[1..chain.len()])
 }

@@ -5,7 +5,7 @@ ghost use Rattle.walks.specs.Plans.{fixed_size, reach, span, window};
 ghost use Rattle.plans.specs.Chains.{nodes_of};
 
 use crate::chains::Chain;
-use crate::nodes::{node_at, places_of};
+use crate::path::Path;
 use graphs::graph::{Graph, Length, Node};
 
 /// The fewest bytes from the node's start on that hold every header and lookup byte of the node and
@@ -13,21 +13,22 @@ use graphs::graph::{Graph, Length, Node};
 pub fn window(graph: &Graph, node: u8, chain: &Chain) -> u16
     ensures { result ≡ window (graph_view graph.now) node (nodes_of chain.now) }
 {
-    window_from(graph, node, chain.named_nodes())
+    Path::new(graph, node, chain.named_nodes()).window()
 }
 
-fn window_from(graph: &Graph, node: u8, chain: &[u8]) -> u16
-    requires { length chain.now ≤ 3 }
-    ensures is { result ≡ window (graph_view graph.now) node chain.now }
-    ensures small { result ≤ 256 * (length chain.now + 1) }
-{
-    let here = node_at(graph, node);
-    let own = span(&here);
-    if chain.len() == 0 {
-        return own;
+impl<'a> Path<'a> {
+    fn window(&self) -> u16
+        requires { length self.now.behind.now ≤ 3 }
+        ensures is { result ≡ window (graph_view self.now.graph.now) self.now.node self.now.behind.now }
+        ensures small { result ≤ 256 * (length self.now.behind.now + 1) }
+    {
+        let here = self.here();
+        let own = span(&here);
+        match self.rest() {
+            None => own,
+            Some(rest) => own.max(fixed_size(here.length) + rest.window()),
+        }
     }
-    let behind = fixed_size(here.length) + window_from(graph, chain[0], &chain[1..chain.len()]);
-    own.max(behind)
 }
 
 // The bytes that a node takes: its header, and its lookup places, which may lie behind it.
@@ -35,7 +36,7 @@ fn span(node: &Node) -> u16
     ensures is { result ≡ span (node_view node.now) }
     ensures small { result ≤ 256 }
 {
-    fixed_size(node.length).max(reach(places_of(node)))
+    fixed_size(node.length).max(reach(node.lookup()))
 }
 
 // The length of a fixed header; 0 for another.
@@ -45,13 +46,7 @@ fn fixed_size(length: Length) -> u16
 {
     match length {
         Length::Fixed(size) => size as u16,
-        Length::Counted {
-            place: _,
-            mask: _,
-            shift: _,
-            unit: _,
-            base: _,
-        } => 0,
+        Length::Counted { .. } => 0,
     }
 }
 
@@ -60,12 +55,5 @@ fn reach(places: &[u8]) -> u16
     ensures is { result ≡ reach places.now }
     ensures small { result ≤ 256 }
 {
-    let mut top = 0;
-    for place in places {
-        let end = *place as u16 + 1;
-        if top < end {
-            top = end;
-        }
-    }
-    top
+    places.iter().max().map_or(0, |highest| *highest as u16 + 1)
 }

@@ -1,9 +1,10 @@
 -- The first answer of a search is the lowest of all that could be told. Assumes nothing.
+use Rattle.std.specs.Option.{option_or, option_map}
 use Rattle.std.proofs.Common.{◌≡◌, ℕ, zero, suc, ◌+◌, ◌<◌, ◌≤◌, Bool, true, false, ◌⊎◌, Some, None, Option, sym, refl, subst, inl, inr, arith, MatchOption}
 use Rattle.std.proofs.lemmas.Bool.{cases_eq, cases_lt, both_ways}
 use Rattle.refusals.specs.declared.refusal.Refusal.{Refusal}
 use Rattle.refusals.specs.Least.{rank, NotAfter}
-use Rattle.refusals.specs.Searching.{or_else, first_told, unless, wrapped}
+use Rattle.refusals.specs.Searching.{first_told, unless}
 
 module _ {E : Type 0} (order : E → E → Type 0) where
   abbrev pub Lowest : (E → Type 0) → Option E → Type 0
@@ -16,7 +17,7 @@ module _ {E : Type 0} (order : E → E → Type 0) where
 
   -- one search behind another, where what the first finds goes before what the second finds
   pub lowest_or : (P Q : E → Type 0) → ((e d : E) → P e → Q d → order e d) → (a b : Option E) → Lowest P a → Lowest Q b
-      → Lowest (λ e. P e ⊎ Q e) (or_else a b)
+      → Lowest (λ e. P e ⊎ Q e) (option_or a b)
   lowest_or P Q before (Some e) b p q = (inl p.0, λ d h. elim h [ inl x ↦ p.1 d x | inr y ↦ before e d p.0 y ])
   lowest_or P Q before None None p q = λ e h. elim h [ inl x ↦ p e x | inr y ↦ q e y ]
   lowest_or P Q before None (Some e) p q = (inr q.0, λ d h. elim h [ inl x ↦ absurd (p d x) | inr y ↦ q.1 d y ])
@@ -33,7 +34,7 @@ module _ {E : Type 0} (order : E → E → Type 0) where
         | inl s ↦ inl (subst (λ j. P j e) s h.3)
         | inr s ↦ inr (h.0, ne_above h.0 i h.1 s, omega (arith, h.2), h.3)
       ])
-      (or_else (f i) (first_told f (i + 1) k))
+      (option_or (f i) (first_told f (i + 1) k))
       (lowest_or (P i) (λ e. (j : ℕ) × (i + 1 ≤ j) × (j < i + 1 + k) × P j e) (λ e d p q. before i q.0 e d (omega (arith, q.1)) p q.3) (f i) (first_told f (i + 1) k) (each i)
       (lowest_of P f each before k (i + 1)))
     where
@@ -45,9 +46,9 @@ module _ {E : Type 0} (order : E → E → Type 0) where
   lowest_unless true x r = λ e h. both_ways true h.1 refl
   lowest_unless false x r = ((refl, refl), λ d h. subst (order x) (sym h.0) r)
 
--- a search whose answer is wrapped
+-- a search whose answer is option_map
 pub lowest_wrapped : {X E : Type 0} (order : E → E → Type 0) (g : X → E) (P : X → Type 0) (o : Option X)
-    → Lowest (λ x y. order (g x) (g y)) P o → Lowest order (λ e. (x : X) × (e ≡ g x) × P x) (wrapped g o)
+    → Lowest (λ x y. order (g x) (g y)) P o → Lowest order (λ e. (x : X) × (e ≡ g x) × P x) (option_map g o)
 lowest_wrapped order g P None h = λ e w. h w.0 w.2
 lowest_wrapped order g P (Some x) h = ((x, refl, h.0), λ d w. subst (order (g x)) (sym w.1) (h.1 w.0 w.2))
 

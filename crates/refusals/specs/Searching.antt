@@ -1,24 +1,15 @@
 -- The first that is found.
+use Rattle.std.specs.Option.{option_or}
 use Rattle.std.specs.Prelude.{ℕ, zero, suc, ◌+◌, Bool, cond, Some, None, Ok, Err, Option, Result}
-
--- the first answer, or else the second
-abbrev pub or_else : {X : Type 0} → Option X → Option X → Option X
-or_else (Some x) o = Some x
-or_else None o = o
 
 -- the first answer of f among k places from i on
 abbrev pub first_told : {X : Type 0} → (ℕ → Option X) → ℕ → ℕ → Option X
 first_told f i zero = None
-first_told f i (suc k) = or_else (f i) (first_told f (i + 1) k)
+first_told f i (suc k) = option_or (f i) (first_told f (i + 1) k)
 
 -- what is said where a test fails
 abbrev pub unless : {X : Type 0} → Bool → X → Option X
 unless b x = cond b None (Some x)
-
--- what is said, wrapped
-abbrev pub wrapped : {X Y : Type 0} → (X → Y) → Option X → Option Y
-wrapped f None = None
-wrapped f (Some x) = Some (f x)
 
 -- the fault that an answer holds
 abbrev pub fault_of : {X E : Type 0} → Result X E → Option E

@@ -3,3 +3,4 @@
 #![tactic(auto)]
 
 pub mod refusal;
+pub mod text;

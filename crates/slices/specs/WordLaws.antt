@@ -2,6 +2,7 @@
 use Rattle.std.specs.Prelude.{◌≡◌, ℕ, zero, suc, ◌+◌, ◌-◌, ◌*◌, ◌/◌, ◌%◌, ◌^◌, ◌<◌, ◌≤◌, Bool, true, false, cond, not, ◌&&◌, ◌||◌, ◌⊎◌, List, [], ◌∷◌, ◌++◌, map, length, ◌==◌, ◌≢◌, nat_eq, nat_lt, slice_index}
 use Rattle.std.proofs.Math.Path.{refl, sym, ap, ap₂}
 use Rattle.std.proofs.Common.{◌∙◌, inl, inr, mod-lt, div-one, zero-lt-suc, add-one, lit<, shr-shr}
+use Rattle.std.proofs.Math.Bool.{or-false, and-true, or-true, and-false, and_assoc}
 use native.Mathlib.Omega.{arith}
 use Rattle.std.specs.Int.Bits.{bit_and, and_le_r}
 use Rattle.std.specs.List.{range_with_len}
@@ -17,39 +18,19 @@ use Rattle.slices.specs.BitLaws.{bit_of_and, bit_of_or, bit_of_not, bit_one, bit
 
 -- ---- one bit put
 
-or_false : (b : Bool) → (b || false) ≡ b
-or_false true = refl
-or_false false = refl
-
-and_true : (b : Bool) → (b && true) ≡ b
-and_true true = refl
-and_true false = refl
-
-or_true : (b : Bool) → (b || true) ≡ true
-or_true true = refl
-or_true false = refl
-
-and_false : (b : Bool) → (b && false) ≡ false
-and_false true = refl
-and_false false = refl
-
-and_assoc : (a b c : Bool) → ((a && b) && c) ≡ (a && (b && c))
-and_assoc true b c = refl
-and_assoc false b c = refl
-
 pub bit_with_same : (w r : ℕ) (b : Bool) → r < 64 → bit r (with_bit w r b) ≡ b
-bit_with_same w r true h = bit_of_or r w (2 ^ r) ∙ ap (λ b. bit r w || b) (bit_one r r ∙ eq-eqb r r refl) ∙ or_true (bit r w)
+bit_with_same w r true h = bit_of_or r w (2 ^ r) ∙ ap (λ b. bit r w || b) (bit_one r r ∙ eq-eqb r r refl) ∙ or-true (bit r w)
 bit_with_same w r false h =
     bit_of_and r w ((2 ^ 64 - 1) - 2 ^ r)
     ∙ ap (λ b. bit r w && b) (bit_of_not 64 r (2 ^ r) h (pow_below r 64 h) ∙ ap not (bit_one r r ∙ eq-eqb r r refl))
-    ∙ and_false (bit r w)
+    ∙ and-false (bit r w)
 
 pub bit_with_other : (w r : ℕ) (b : Bool) (j : ℕ) → r < 64 → j < 64 → (j ≢ r) → bit j (with_bit w r b) ≡ bit j w
-bit_with_other w r true j h hj ne = bit_of_or j w (2 ^ r) ∙ ap (λ b. bit j w || b) (bit_one j r ∙ ne_eqb j r ne) ∙ or_false (bit j w)
+bit_with_other w r true j h hj ne = bit_of_or j w (2 ^ r) ∙ ap (λ b. bit j w || b) (bit_one j r ∙ ne_eqb j r ne) ∙ or-false (bit j w)
 bit_with_other w r false j h hj ne =
     bit_of_and j w ((2 ^ 64 - 1) - 2 ^ r)
     ∙ ap (λ b. bit j w && b) (bit_of_not 64 j (2 ^ r) hj (pow_below r 64 h) ∙ ap not (bit_one j r ∙ ne_eqb j r ne))
-    ∙ and_true (bit j w)
+    ∙ and-true (bit j w)
 
 -- ---- places
 
@@ -127,7 +108,7 @@ module _ (r : Row) (q : Question) (vb : r.value < 2 ^ 64) (mb : r.mask < 2 ^ 64)
       let a : bit_and q.key r.mask ≤ r.mask = and_le_r q.key r.mask in
       state_all
       ∙ sym (ap (λ t. (q.state.number == r.state.number) && t) (eq-eqb (bit_and q.key r.mask / 2 ^ 64) (r.value / 2 ^ 64) (omega arith))
-      ∙ and_true (q.state.number == r.state.number))
+      ∙ and-true (q.state.number == r.state.number))
   key_more (suc j) h =
       let e : 17 - suc (suc j) ≡ 16 - suc j = omega arith in
       let f : 4 * (16 - j) ≡ 4 * (16 - suc j) + 4 = omega arith in

@@ -34,10 +34,7 @@ fn answers_the_table<S: Store>(rt: &impl Abort, store: &mut S, before: u16) -> R
     fill(store, &rows)?;
     assert_eq!(rt; store.held(), before.wrapping_add(5));
     for (number, key, place) in ANSWERS {
-        let expected = match place {
-            Some(i) => Some(i.wrapping_add(before)),
-            None => None,
-        };
+        let expected = place.map(|place| place.wrapping_add(before));
         assert_eq!(rt; store.ask(&question(number, key)?), expected);
     }
     store.wipe();

@@ -69,11 +69,8 @@ fn a_pair_keeps_the_rows_of_its_parts(rt: HostRuntime) -> Result<(), Fail> {
 
 #[test]
 fn a_full_store_refuses_by_9(rt: HostRuntime) {
-    let refusal = Refusal {
-        number: 9,
-        layer: Layer::Store,
-        first: 0,
-        second: 0,
-    };
-    assert_eq!(rt; StoreFault::Full.refusal(), refusal);
+    assert_eq!(rt;
+        Refusal::from(StoreFault::Full),
+        Refusal::new(9, Layer::Store)
+    );
 }

@@ -23,6 +23,8 @@ fn fresh_pile() -> Pile
     Pair::new(Sliced::new(), Pair::new(Listing::new(), Sliced::new()))
 }
 
+// One `fill` fills each of the three. It says what it does by the trait's meaning, these say it in
+// the words of each store.
 fn fill_listing(store: &mut Listing, rows: &[Row]) -> Result<(), StoreFault>
     ensures answered { result ≡ all_taken (of_listing store.old) rows.now }
     ensures after { of_listing store.new ≡ filled (of_listing store.old) rows.now }

@@ -1,22 +1,16 @@
 // Rows and questions of the examples.
+use std::convert::TryFrom;
 use std::test::Fail;
 use stores::question::{Question, Row};
 use stores::state::State;
 
-fn state(number: u8) -> Result<State, Fail> {
-    match State::new(number) {
-        Some(state) => Ok(state),
-        None => Err(Fail::new("a state is below 64")),
-    }
-}
-
 pub(crate) fn row(number: u8, value: u64, mask: u64) -> Result<Row, Fail> {
-    let state = state(number)?;
+    let state = State::try_from(number)?;
     Ok(Row { state, value, mask })
 }
 
 pub(crate) fn question(number: u8, key: u64) -> Result<Question, Fail> {
-    let state = state(number)?;
+    let state = State::try_from(number)?;
     Ok(Question { state, key })
 }
 

@@ -1,9 +1,13 @@
 -- The first row that fits, in lists that are joined, cut or searched in order.
-use Rattle.std.specs.Prelude.{◌≡◌, ℕ, zero, suc, ◌+◌, ◌<◌, Bool, true, false, cond, List, [], ◌∷◌, ◌++◌, length, take, Some, None, Option, refl}
+use Rattle.std.specs.Prelude.{◌≡◌, ℕ, zero, suc, ◌+◌, ◌<◌, Bool, true, false, cond, List, [], ◌∷◌, ◌++◌, map, length, take, Some, None, Option, position, refl}
+use Rattle.std.specs.List.{position_from}
+use Rattle.std.proofs.lemmas.Iterator.Adapters.{position_from-zero}
 use Rattle.std.proofs.Common.{sym, ap, ◌∙◌, arith}
 use Rattle.std.proofs.lemmas.Bool.{le-ltb, lt-ltb}
 use Rattle.std.proofs.lemmas.Bool.Decides.{nat_tests}
 use Rattle.stores.specs.declared.question.Question.{Question}
+use Rattle.stores.specs.declared.question.Row.{Row}
+use Rattle.stores.specs.Fits.{fits}
 use Rattle.stores.specs.Meaning.{answer, later}
 use Rattle.stores.specs.Paired.{behind, cut}
 
@@ -40,13 +44,21 @@ module _ (q : Question) where
       elim (f q) as (λ b. cond b (Some 0) (later (answer (xs ++ ys) q)) ≡ either (cond b (Some 0) (later (answer xs q))) (behind (suc (length xs)) (answer ys q)))
       [ true ↦ refl | false ↦ ap later (answer_append xs ys) ∙ later_either (answer xs q) (answer ys q) (length xs) ]
 
-  -- none of the first fits, nor does the next
-  pub none_push : (fs : List (Question → Bool)) (f : Question → Bool) → answer fs q ≡ None → f q ≡ false → answer (fs ++ (f ∷ [])) q ≡ None
-  none_push fs f none miss = rw (answer_append, none, miss)
+  fits_later : (i : ℕ) (rows : List Row) → position_from (λ r. fits r q) (i + 1) rows ≡ later (position_from (λ r. fits r q) i rows)
+  fits_later i [] = refl
+  fits_later i (r ∷ rows) =
+      elim (fits r q) as (λ b. cond b (Some (i + 1)) (position_from (λ r. fits r q) (i + 1 + 1) rows) ≡ later (cond b (Some i) (position_from (λ r. fits r q) (i + 1) rows)))
+      [ true ↦ refl | false ↦ fits_later (i + 1) rows ]
 
-  -- none of the first fits, and the next does
-  pub hit : (fs gs : List (Question → Bool)) (f : Question → Bool) → answer fs q ≡ None → f q ≡ true → answer (fs ++ (f ∷ gs)) q ≡ Some (length fs)
-  hit fs gs f none fit = rw (answer_append, none, fit) (ap Some (omega arith))
+  fits_from : (rows : List Row) → position_from (λ r. fits r q) 0 rows ≡ answer (map fits rows) q
+  fits_from [] = refl
+  fits_from (r ∷ rows) =
+      elim (fits r q) as (λ b. cond b (Some 0) (position_from (λ r. fits r q) (0 + 1) rows) ≡ cond b (Some 0) (later (answer (map fits rows) q)))
+      [ true ↦ refl | false ↦ fits_later 0 rows ∙ ap later (fits_from rows) ]
+
+  -- of rows in order it is the first place at which one fits
+  pub answer_position : (rows : List Row) → position (λ r. fits r q) rows ≡ answer (map fits rows) q
+  answer_position rows = position_from-zero (λ r. fits r q) rows ∙ fits_from rows
 
   -- of the first n rows, the place that all have if it is below n
   pub answer_take : (n : ℕ) (fs : List (Question → Bool)) → answer (take n fs) q ≡ cut n (answer fs q)

@@ -2,6 +2,7 @@ pub mod Faults
 pub mod Fits
 pub mod Meaning
 pub mod Listed
+pub mod Tabled
 pub mod Paired
 pub mod Filled
 pub mod Listings

@@ -10,18 +10,13 @@ pub enum StoreFault {
     Full,
 }
 
-impl StoreFault {
-    /// The fault's number, layer and place.
-    pub fn refusal(self) -> Refusal
-        ensures { result ≡ of_store self }
-    {
-        match self {
-            StoreFault::Full => Refusal {
-                number: 9,
-                layer: Layer::Store,
-                first: 0,
-                second: 0,
-            },
+/// The fault's number, layer and place.
+impl From<StoreFault> for Refusal {
+    ghost from_gives = { λ fault refusal. refusal ≡ of_store fault };
+
+    fn from(fault: StoreFault) -> Refusal {
+        match fault {
+            StoreFault::Full => Refusal::new(9, Layer::Store),
         }
     }
 }

@@ -9,3 +9,5 @@ pub mod pair;
 pub mod question;
 pub mod state;
 pub mod store;
+pub mod table;
+pub mod tabled;

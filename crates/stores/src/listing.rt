@@ -1,113 +1,59 @@
 // The listing store: 512 rows, tried in order.
-ghost use Rattle.std.specs.Prelude.{◌≡◌, ◌+◌, ◌<◌, ◌≤◌, [], ◌∷◌, ◌++◌, map, length, take};
-ghost use Rattle.stores.specs.Fits.{fits};
-ghost use Rattle.stores.specs.Listed.{listed};
-ghost use Rattle.stores.specs.Meaning.{answer, fresh};
+ghost use Rattle.std.specs.Prelude.{◌≡◌, map, position, length, take};
 ghost use Rattle.std.proofs.Common.{arith};
+ghost use Rattle.stores.specs.Fits.{fits};
 ghost use Rattle.stores.specs.Listings.{length_listed};
 
-use crate::fault::StoreFault;
 use crate::question::{Question, Row};
-use crate::state::State;
-use crate::store::Store;
+use crate::table::Table;
+use crate::tabled::Tabled;
 
-const CAPACITY: u16 = 512;
+/// 512 rows. A question tries them in order.
+#[derive(Clone, Copy)]
+pub struct Rows {
+    rows: [Row; 512],
+    ghost whole: { length rows ≡ 512 },
+}
 
 /// A store of 512 rows. A question tries them in order.
-#[derive(Clone, Copy)]
-pub struct Listing {
-    rows: [Row; 512],
-    held: u16,
-    questions: u64,
-    ghost whole: { length rows ≡ 512 },
-    ghost within: { held ≤ 512 },
-}
+pub type Listing = Tabled<Rows, 512>;
 
-impl Listing {
-    /// A listing with no rows that was never asked.
-    pub fn new() -> Listing
-        ensures { listed result.rows result.held result.questions ≡ fresh 512 }
-    {
-        let blank = Row {
-            state: State::zero(),
-            value: 0,
-            mask: 0,
-        };
-        Listing {
-            rows: [blank; 512],
-            held: 0,
-            questions: 0,
+// By hand: `Default` is not derived for a struct with a ghost field.
+impl Default for Rows {
+    /// A table of which no place is held yet, so that any rows will do.
+    fn default() -> Rows {
+        Rows {
+            rows: [Row::default(); 512],
         }
     }
+}
 
+// The place of the first of the rows that fits.
+fn first_place(rows: &[Row], question: &Question) -> Option<usize>
+    ensures { result ≡ position (λ r. fits r question.now) rows.now }
+{
+    rows.iter().position(|row| row.fits(question))
+}
+
+impl Table<512> for Rows {
+    ghost rows = { λ t held. map fits (take held t.rows) };
+
+    ghost length_rows = { λ t held h. length_listed t.rows held (omega arith) };
+
+    fn put(&mut self, held: u16, row: Row) {
+        self.rows[held as usize] = row;
+    }
+
+    fn first_fitting(&self, held: u16, question: &Question) -> Option<u16> {
+        first_place(&self.rows[..held as usize], question).map(|place| place as u16)
+    }
+}
+
+impl Tabled<Rows, 512> {
     /// The rows that are held, in order.
     pub fn rows(&self) -> &[Row]
-        ensures { result.now ≡ take self.now.held self.now.rows }
+        ensures { result.now ≡ take self.now.held self.now.table.rows }
     {
-        let rows: &[Row] = &self.rows;
-        &rows[0..self.held as usize]
-    }
-}
-
-// The place of the first of the first `held` rows that fits.
-fn first_fitting(rows: &[Row; 512], held: u16, question: &Question) -> Option<u16>
-    requires { held ≤ 512 }
-    ensures { result ≡ answer (map fits (take held rows.now)) question.now }
-{
-    for i in 0..held {
-        if rows[i as usize].fits(question) {
-            return Some(i);
-        }
-    }
-    None
-}
-
-// Puts a row behind the first `held`.
-fn put_row(rows: &mut [Row; 512], held: u16, row: &Row)
-    requires { held < 512 }
-    ensures put { map fits (take (held + 1) rows.new) ≡ map fits (take held rows.old) ++ (fits row.now ∷ []) }
-    ensures whole { length rows.new ≡ length rows.old }
-{
-    rows[held as usize] = *row;
-}
-
-impl Store for Listing {
-    ghost meaning = { λ s. listed s.rows s.held s.questions };
-
-    ghost bounded = { λ s.
-        record {
-          rows_fit = omega (arith, length_listed s.rows s.held (omega arith));
-          capacity_fits = omega arith;
-          takes_fit = omega arith;
-        } };
-
-    fn wipe(&mut self) {
-        self.held = 0;
-    }
-
-    fn append(&mut self, row: &Row) -> Result<(), StoreFault> {
-        if self.held >= CAPACITY {
-            return Err(StoreFault::Full);
-        }
-        put_row(&mut self.rows, self.held, row);
-        self.held += 1;
-        Ok(())
-    }
-
-    fn ask(&mut self, question: &Question) -> Option<u16> {
-        self.questions = self.questions.wrapping_add(1);
-        first_fitting(&self.rows, self.held, question)
-    }
-
-    fn capacity(&self) -> u16 {
-        CAPACITY
-    }
-
-    fn held(&self) -> u16 {
-        self.held
-    }
-
-    fn takes(&self) -> u16 {
-        CAPACITY - self.held
+        &self.table.rows[..self.held as usize]
     }
 }

@@ -7,9 +7,6 @@ use crate::fault::StoreFault;
 use crate::question::{Question, Row};
 use crate::store::Store;
 
-// The most rows that a store can tell of.
-const MOST: u32 = 65535;
-
 /// Two stores, the rows of the second behind those of the first: a store again. It counts its own
 /// questions, whatever its parts were asked before.
 #[derive(Drop)]
@@ -36,13 +33,9 @@ impl<A: Store, B: Store> Pair<A, B> {
 fn moved(held: u16, place: Option<u16>) -> Option<u16>
     ensures { result ≡ cut 65535 (behind held place) }
 {
-    match place {
-        Some(i) => {
-            let sum = held as u32 + i as u32;
-            if sum < MOST { Some(sum as u16) } else { None }
-        }
-        None => None,
-    }
+    place
+        .and_then(|place| held.checked_add(place))
+        .filter(|place| *place < u16::MAX)
 }
 
 impl<A: Store, B: Store> Store for Pair<A, B> {
@@ -68,6 +61,7 @@ impl<A: Store, B: Store> Store for Pair<A, B> {
 
     fn ask(&mut self, question: &Question) -> Option<u16> {
         self.questions = self.questions.wrapping_add(1);
+        // `or_else` does not tell that the second is left alone where the first answers.
         match self.first.ask(question) {
             Some(place) => Some(place),
             None => moved(self.first.held(), self.second.ask(question)),
@@ -75,22 +69,19 @@ impl<A: Store, B: Store> Store for Pair<A, B> {
     }
 
     fn capacity(&self) -> u16 {
-        let sum = self.first.capacity() as u32 + self.second.capacity() as u32;
-        sum.min(MOST) as u16
+        self.first.capacity().saturating_add(self.second.capacity())
     }
 
     fn held(&self) -> u16 {
-        let sum = self.first.held() as u32 + self.second.held() as u32;
-        sum.min(MOST) as u16
+        self.first.held().saturating_add(self.second.held())
     }
 
     fn takes(&self) -> u16 {
-        let room = MOST - self.held() as u32;
-        if self.second.held() == 0 {
-            let sum = self.first.takes() as u32 + self.second.takes() as u32;
-            sum.min(room) as u16
+        let both = if self.second.held() == 0 {
+            self.first.takes().saturating_add(self.second.takes())
         } else {
-            (self.second.takes() as u32).min(room) as u16
-        }
+            self.second.takes()
+        };
+        both.min(u16::MAX - self.held())
     }
 }

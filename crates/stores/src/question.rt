@@ -5,14 +5,14 @@ ghost use Rattle.stores.specs.Fits.{fits};
 use crate::state::State;
 
 /// A state and a key of eight bytes, the first topmost.
-#[derive(Clone, Copy)]
+#[derive(Clone, Copy, PartialEq, Eq, Debug)]
 pub struct Question {
     pub state: State,
     pub key: u64,
 }
 
 /// A state, and a value and a mask of eight bytes each, the first topmost. Any three make a row.
-#[derive(Clone, Copy)]
+#[derive(Clone, Copy, PartialEq, Eq, Debug, Default)]
 pub struct Row {
     pub state: State,
     pub value: u64,
@@ -25,6 +25,6 @@ impl Row {
     pub fn fits(&self, question: &Question) -> bool
         ensures { result ≡ fits self.now question.now }
     {
-        question.state.number() == self.state.number() && question.key & self.mask == self.value
+        question.state == self.state && question.key & self.mask == self.value
     }
 }

@@ -1,23 +1,63 @@
 // The state of a question or a row.
-ghost use Rattle.std.specs.Prelude.{◌≡◌, ◌<◌, ◌≤◌, MatchOption};
+ghost use Rattle.std.specs.Prelude.{◌≡◌, ◌<◌, ◌≤◌, MatchOption, MatchResult};
+
+use std::convert::TryFrom;
+use std::error::Error;
+use std::fmt;
 
 /// A state's number, which its type keeps below 64.
-#[derive(Clone, Copy)]
+#[derive(Clone, Copy, PartialEq, Eq, Debug)]
 pub struct State {
     number: u8,
     ghost below: { number < 64 },
 }
 
+/// A number from 64 on, which is no state's.
+#[derive(Clone, Copy, PartialEq, Eq, Debug)]
+pub struct NoState {
+    pub number: u8,
+}
+
+impl fmt::Display for NoState {
+    fn fmt<W: fmt::Write>(&self, f: &mut fmt::Formatter<W>) -> fmt::Result {
+        write!(f, "{} is no state: a state is below 64", self.number)
+    }
+}
+
+impl Error for NoState {}
+
+impl TryFrom<u8> for State {
+    type Error = NoState;
+
+    ghost try_from_gives = { λ number result. MatchResult result (λ state. state.number ≡ number)
+        (λ refused. (64 ≤ number) × (refused.number ≡ number)) };
+
+    /// The state of a number. Refused from 64 on.
+    fn try_from(number: u8) -> Result<State, NoState> {
+        if number < 64 {
+            Ok(State { number })
+        } else {
+            Err(NoState { number })
+        }
+    }
+}
+
+impl Default for State {
+    ghost is_default = { λ state. state.number ≡ 0 };
+
+    /// The state 0.
+    fn default() -> State {
+        State { number: 0 }
+    }
+}
+
 impl State {
     /// The state of a number. None from 64 on.
+    // Beside `try_from`, for callers that tell no error.
     pub fn new(number: u8) -> Option<State>
         ensures { MatchOption result (64 ≤ number) (λ state. state.number ≡ number) }
     {
-        if number < 64 {
-            Some(State { number })
-        } else {
-            None
-        }
+        State::try_from(number).ok()
     }
 
     /// The state's number.
@@ -25,12 +65,5 @@ impl State {
         ensures { (result ≡ self.now.number) × (result < 64) }
     {
         self.number
-    }
-
-    // The state 0.
-    pub(crate) fn zero() -> State
-        ensures { result.number ≡ 0 }
-    {
-        State { number: 0 }
     }
 }

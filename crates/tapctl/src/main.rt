@@ -2,48 +2,36 @@
 
 #![tactic(auto)]
 
-mod command;
-mod commands;
-mod counts;
-mod demo;
-mod failure;
-mod files;
-mod graph_text;
-mod refusal_text;
-mod script;
-mod store_table;
-
-use crate::command::Command;
-use crate::commands::carry_out;
-use crate::failure::Failure;
-use crate::script::run_script;
+use console::basic::Basic;
+use console::failure::Failure;
+use console::program::{Program, run};
+use std::io;
 use std::process::ExitCode;
-use std::{env, io};
+use std::rt::Files;
 
-/// Ends with status 1 where the call fails, once its message is printed; where the words cannot be
-/// read or nothing can be printed, with that error.
-fn main(rt: HostRuntime) -> Result<ExitCode, io::Error> {
-    let mut args = env::args(&rt)?;
-    let _program = args.next();
-    let args: Vec<String> = args.collect(rt.alloc())?;
-    match run(&rt, args.as_slice()) {
-        Ok(()) => Ok(ExitCode::SUCCESS),
-        Err(failure) => {
-            println!(rt; "{failure}")?;
-            Ok(ExitCode::FAILURE)
-        }
+/// How the program is called.
+const USAGE: &str = "usage: tapctl COMMAND
+  check FILE      says whether the graph file is accepted, or why it is refused
+  show FILE       shows the graph's nodes, lengths, lookup bytes and rows
+  copy FILE OUT   reads the graph, writes it to OUT, and compares the two files
+  demo            does all three with a graph that the program makes
+  stores          fills and asks the stores, and prints what they say side by side
+  script          takes commands from standard input, one to a line";
+
+/// The program with the basic commands alone.
+struct Tapctl;
+
+impl Program for Tapctl {
+    fn carry_out<'a>(
+        &self,
+        rt: &(impl Files + Print + AllocGlobal),
+        words: &[&'a str],
+    ) -> Result<(), Failure<'a>> {
+        let command = Basic::parse(words).ok_or(Failure::Usage(USAGE))?;
+        command.carry_out(rt)
     }
 }
 
-// Carries out what the call's words say.
-fn run<'a>(rt: &HostRuntime, args: &'a [String]) -> Result<(), Failure<'a>> {
-    let mut words = Vec::new(rt.alloc());
-    for arg in args {
-        words.push(arg.as_str())?;
-    }
-    match Command::parse(words.as_slice()) {
-        Some(Command::Script) => run_script(rt),
-        Some(command) => carry_out(rt, command),
-        None => Err(Failure::Usage),
-    }
+fn main(rt: HostRuntime) -> io::Result<ExitCode> {
+    run(&rt, &Tapctl)
 }

@@ -1,19 +1,19 @@
-// The commands of the program, and how they are written.
-use crate::table_text::StoreKind;
+// The commands of the program: how they are written, and what each does.
+use crate::plan_words::plan_of;
+use crate::table_text::{NoStore, StoreKind, print_table};
+use crate::walk_text::print_walks;
+use console::basic::Basic;
+use console::failure::Failure;
+use console::files::{bytes_of, graph_of, put};
+use plans::count::row_count;
+use plans::read::read_plan;
+use refusals::refusal::Refusal;
+use std::rt::Files;
 
 /// What the program can be told to do.
 #[derive(Clone, Copy)]
-pub enum Command<'a> {
-    Check {
-        file: &'a str,
-    },
-    Show {
-        file: &'a str,
-    },
-    Copy {
-        file: &'a str,
-        out: &'a str,
-    },
+pub enum Command<'w, 'a> {
+    Basic(Basic<'a>),
     Walk {
         file: &'a str,
         packets: &'a str,
@@ -21,55 +21,100 @@ pub enum Command<'a> {
     Plan {
         file: &'a str,
         out: &'a str,
+        chains: &'w [&'a str],
     },
     Table {
         file: &'a str,
         plan: &'a str,
         store: StoreKind,
     },
-    Stores,
-    Demo,
-    Script,
 }
 
-impl<'a> Command<'a> {
-    /// The command that the words say. None if the first word is no command's, or if the command
-    /// takes more words or fewer.
-    pub fn parse(words: &[&'a str]) -> Option<Command<'a>> {
+impl<'w, 'a> Command<'w, 'a> {
+    /// The command that the words say. Fails with the usage if the first word is no command's, or if
+    /// the command takes more words or fewer, or another store.
+    pub fn parse(words: &'w [&'a str]) -> Result<Command<'w, 'a>, Failure<'a>> {
         match words {
-            ["check", file] => Some(Command::Check { file: *file }),
-            ["show", file] => Some(Command::Show { file: *file }),
-            ["copy", file, out] => Some(Command::Copy {
-                file: *file,
-                out: *out,
-            }),
-            ["walk", file, packets] => Some(Command::Walk {
+            ["walk", file, packets] => Ok(Command::Walk {
                 file: *file,
                 packets: *packets,
             }),
-            ["plan", file, out, ..] => Some(Command::Plan {
+            ["plan", file, out, chains @ ..] => Ok(Command::Plan {
                 file: *file,
                 out: *out,
+                chains,
             }),
-            ["table", file, plan] => Some(Command::Table {
+            ["table", file, plan] => Ok(Command::Table {
                 file: *file,
                 plan: *plan,
                 store: StoreKind::Listing,
             }),
-            ["table", file, plan, store] => match StoreKind::parse(store) {
-                Some(store) => Some(Command::Table {
-                    file: *file,
-                    plan: *plan,
-                    store,
-                }),
-                None => None,
-            },
-            ["stores"] => Some(Command::Stores),
-            ["demo"] => Some(Command::Demo),
-            ["script"] => Some(Command::Script),
-            _ => None,
+            ["table", file, plan, store] => Ok(Command::Table {
+                file: *file,
+                plan: *plan,
+                store: store.parse()?,
+            }),
+            words => Basic::parse(words)
+                .map(Command::Basic)
+                .ok_or(Failure::Usage(USAGE)),
         }
     }
+
+    /// Carries out the command.
+    pub fn carry_out(self, rt: &(impl Files + Print + AllocGlobal)) -> Result<(), Failure<'a>> {
+        match self {
+            Command::Basic(command) => command.carry_out(rt),
+            Command::Walk { file, packets } => walk(rt, file, packets),
+            Command::Plan { file, out, chains } => plan(rt, file, out, chains),
+            Command::Table { file, plan, store } => table(rt, file, plan, store),
+        }
+    }
+}
+
+impl<'a> From<NoStore> for Failure<'a> {
+    fn from(_word: NoStore) -> Failure<'a> {
+        Failure::Usage(USAGE)
+    }
+}
+
+// Walks a packet, or each packet of a capture, through the graph.
+fn walk<'a>(
+    rt: &(impl Files + Print + AllocGlobal),
+    file: &'a str,
+    packets: &'a str,
+) -> Result<(), Failure<'a>> {
+    let graph = graph_of(rt, file)?;
+    let packets = bytes_of(rt, packets)?;
+    print_walks(rt, &graph, packets.as_slice())
+}
+
+// Writes a plan for the graph, with the chains that the words say.
+fn plan<'a>(
+    rt: &(impl Files + Print + AllocGlobal),
+    file: &'a str,
+    out: &'a str,
+    chains: &[&'a str],
+) -> Result<(), Failure<'a>> {
+    let graph = graph_of(rt, file)?;
+    let plan = plan_of(rt.alloc(), &graph, chains)?;
+    let chains = read_plan(&graph, plan.as_slice()).map_err(Refusal::from)?;
+    let rows = row_count(&graph, &chains);
+    put(rt, out, plan.as_slice())?;
+    let count = plan.len();
+    println!(rt; "written: {count} bytes to {out}; graph and plan need {rows} rows")?;
+    Ok(())
+}
+
+// Shows the rows of graph and plan.
+fn table<'a>(
+    rt: &(impl Files + Print + AllocGlobal),
+    file: &'a str,
+    plan: &'a str,
+    store: StoreKind,
+) -> Result<(), Failure<'a>> {
+    let file = bytes_of(rt, file)?;
+    let plan = bytes_of(rt, plan)?;
+    print_table(rt, file.as_slice(), plan.as_slice(), store)
 }
 
 /// How the program is called.

@@ -1,15 +1,18 @@
 // The rows of a graph and a plan as a person reads them.
-use crate::failure::Failure;
-use crate::graph_text::{TargetText, kind_name};
 use compiler::compile::compile;
 use compiler::fault::LoadFault;
 use compiler::program::{Head, Program};
+use console::failure::Failure;
+use console::graph_text::TargetText;
+use console::hex::Hex;
+use console::store_table::pile;
 use graph_reader::read::read_graph;
 use graphs::graph::Graph;
+use refusals::refusal::Refusal;
 use slices::sliced::Sliced;
+use std::str::FromStr;
 use std::{fmt, io};
 use stores::listing::Listing;
-use stores::pair::Pair;
 use stores::question::Row;
 use stores::store::Store;
 use walks::action::Action;
@@ -22,35 +25,41 @@ pub enum StoreKind {
     Pile,
 }
 
-impl StoreKind {
-    /// The store that a word names. None for any other word.
-    pub fn parse(word: &str) -> Option<StoreKind> {
+/// A word that names no store.
+#[derive(Clone, Copy)]
+pub struct NoStore;
+
+impl FromStr for StoreKind {
+    type Err = NoStore;
+
+    fn from_str(word: &str) -> Result<StoreKind, NoStore> {
         match word {
-            "listing" => Some(StoreKind::Listing),
-            "sliced" => Some(StoreKind::Sliced),
-            "pile" => Some(StoreKind::Pile),
-            _ => None,
+            "listing" => Ok(StoreKind::Listing),
+            "sliced" => Ok(StoreKind::Sliced),
+            "pile" => Ok(StoreKind::Pile),
+            _ => Err(NoStore),
         }
     }
 }
 
 /// Compiles graph and plan into a store, and prints the rows with their actions. Refused by 1 to 9.
 pub fn print_table<'a>(
-    rt: &HostRuntime,
+    rt: &(impl Print + AllocGlobal),
     file: &[u8],
     plan: &[u8],
     kind: StoreKind,
 ) -> Result<(), Failure<'a>> {
-    let capacity = capacity_of(file, plan, kind)?;
+    let capacity = capacity_of(file, plan, kind).map_err(Refusal::from)?;
     let graph = read_graph(file)?;
     let mut listing = Listing::new();
     let mut program = Program::none();
-    compile(file, plan, &mut listing, &mut program)?;
+    compile(file, plan, &mut listing, &mut program).map_err(Refusal::from)?;
     println!(rt;
         "place  state  node                            headers  target             value / mask over the lookup bytes, and bit by bit"
     )?;
-    for (place, row) in listing.rows().iter().enumerate() {
-        print_row(rt, &graph, &program, place, row)?;
+    let actions = program.actions.as_slice();
+    for (place, (row, action)) in listing.rows().iter().zip(actions.iter()).enumerate() {
+        print_row(rt, &graph, &program, place, row, *action)?;
     }
     let rows = listing.held();
     println!(rt; "{rows} rows of the {capacity} that the store can have")?;
@@ -62,10 +71,7 @@ fn capacity_of(file: &[u8], plan: &[u8], kind: StoreKind) -> Result<u16, LoadFau
     match kind {
         StoreKind::Listing => capacity_in(file, plan, &mut Listing::new()),
         StoreKind::Sliced => capacity_in(file, plan, &mut Sliced::new()),
-        StoreKind::Pile => {
-            let behind = Pair::new(Listing::new(), Sliced::new());
-            capacity_in(file, plan, &mut Pair::new(Sliced::new(), behind))
-        }
+        StoreKind::Pile => capacity_in(file, plan, &mut pile()),
     }
 }
 
@@ -75,16 +81,16 @@ fn capacity_in<S: Store>(file: &[u8], plan: &[u8], store: &mut S) -> Result<u16,
 }
 
 fn print_row(
-    rt: &HostRuntime,
+    rt: &(impl Print + AllocGlobal),
     graph: &Graph,
     program: &Program,
     place: usize,
     row: &Row,
+    action: Action,
 ) -> io::Result<()> {
     let state = row.state.number();
     let nodes = NodesText(state, program).to_string(rt.alloc())?;
     let nodes = nodes.as_str();
-    let action = action_at(program, place);
     let headers = action.beyond as usize + 1;
     let target = ActionText(action, graph).to_string(rt.alloc())?;
     let target = target.as_str();
@@ -92,63 +98,51 @@ fn print_row(
     println!(rt; "{place:>5}  {state:>5}  {nodes:<30}  {headers:>7}  {target:<17}  {pattern}")
 }
 
-// The action beside the row at a place.
-fn action_at(program: &Program, place: usize) -> Action {
-    let actions: &[Action] = &program.actions.list;
-    match actions.get(place) {
-        Some(action) => *action,
-        None => Action {
-            beyond: 0,
-            target: None,
-        },
-    }
-}
-
 // The head of a node; none past the program's nodes.
 fn head_of(program: &Program, node: u8) -> Option<Head> {
-    let heads: &[Head] = &program.heads;
-    heads.get(node as usize).copied()
+    program.heads.as_slice().get(node as usize).copied()
 }
 
 // How many lookup bytes a node has.
 fn places_of(program: &Program, node: u8) -> usize {
-    match head_of(program, node) {
-        Some(head) => head.place_count as usize,
-        None => 0,
+    head_of(program, node).map_or(0, |head| head.places.as_slice().len())
+}
+
+/// The first state whose rows are over a node and its chain: that of node 0.
+const FIRST_CHAINED: u8 = 32;
+
+// The node of a state, and from the first chained state on the head that has its chain.
+fn node_and_head(program: &Program, state: u8) -> (u8, Option<Head>) {
+    match state.checked_sub(FIRST_CHAINED) {
+        Some(node) => (node, head_of(program, node)),
+        None => (state, None),
     }
 }
 
-// How many lookup bytes the rows of a state are over: those of the node, from 32 on also of its chain.
+// How many lookup bytes the rows of a state are over: those of its node and of its chain.
 fn width_of(program: &Program, state: u8) -> usize {
-    if state < 32 {
-        return places_of(program, state);
-    }
-    let mut width = places_of(program, state - 32);
-    if let Some(head) = head_of(program, state - 32) {
-        for node in head.chain.named_nodes() {
-            width = width.saturating_add(places_of(program, *node));
-        }
-    }
-    width
+    let (node, head) = node_and_head(program, state);
+    let own = places_of(program, node);
+    head.map_or(own, |head| {
+        let chain = head.chain.named_nodes().iter();
+        chain.fold(own, |width, next| {
+            width.saturating_add(places_of(program, *next))
+        })
+    })
 }
 
-// The node of a state by number and kind, from 32 on with its chain.
+// The nodes of a state by number and kind.
 #[derive(Clone, Copy)]
 struct NodesText<'a>(u8, &'a Program);
 
 impl fmt::Display for NodesText<'_> {
     fn fmt<W: fmt::Write>(&self, f: &mut fmt::Formatter<W>) -> fmt::Result {
-        let program = self.1;
-        if self.0 < 32 {
-            let node = NodeText(self.0, program);
-            return write!(f, "{node}");
-        }
-        let node = NodeText(self.0 - 32, program);
-        write!(f, "{node}")?;
-        if let Some(head) = head_of(program, self.0 - 32) {
+        let NodesText(state, program) = *self;
+        let (node, head) = node_and_head(program, state);
+        write!(f, "{}", NodeText(node, program))?;
+        if let Some(head) = head {
             for next in head.chain.named_nodes() {
-                let next = NodeText(*next, program);
-                write!(f, " + {next}")?;
+                write!(f, " + {}", NodeText(*next, program))?;
             }
         }
         Ok(())
@@ -163,10 +157,7 @@ impl fmt::Display for NodeText<'_> {
     fn fmt<W: fmt::Write>(&self, f: &mut fmt::Formatter<W>) -> fmt::Result {
         let node = self.0;
         match head_of(self.1, node) {
-            Some(head) => {
-                let kind = kind_name(head.kind);
-                write!(f, "{node} {kind}")
-            }
+            Some(head) => write!(f, "{node} {}", head.kind),
             None => write!(f, "{node}"),
         }
     }
@@ -179,10 +170,7 @@ struct ActionText<'a>(Action, &'a Graph);
 impl fmt::Display for ActionText<'_> {
     fn fmt<W: fmt::Write>(&self, f: &mut fmt::Formatter<W>) -> fmt::Result {
         match self.0.target {
-            Some(target) => {
-                let target = TargetText(target, self.1);
-                write!(f, "{target}")
-            }
+            Some(target) => write!(f, "{}", TargetText(target, self.1)),
             None => write!(f, "none"),
         }
     }
@@ -194,21 +182,16 @@ struct PatternText(u64, u64, usize);
 
 impl fmt::Display for PatternText {
     fn fmt<W: fmt::Write>(&self, f: &mut fmt::Formatter<W>) -> fmt::Result {
-        let values = self.0.to_be_bytes();
-        let masks = self.1.to_be_bytes();
         if self.2 == 0 {
             return write!(f, "always");
         }
-        for value in values.iter().take(self.2) {
-            write!(f, "{value:02X}")?;
-        }
-        write!(f, " / ")?;
-        for mask in masks.iter().take(self.2) {
-            write!(f, "{mask:02X}")?;
-        }
-        for (value, mask) in values.iter().zip(masks.iter()).take(self.2) {
-            let bits = BitsText(*value, *mask);
-            write!(f, "  {bits}")?;
+        let values = self.0.to_be_bytes();
+        let masks = self.1.to_be_bytes();
+        let width = self.2.min(values.len());
+        let (values, masks) = (&values[..width], &masks[..width]);
+        write!(f, "{} / {}", Hex(values), Hex(masks))?;
+        for (value, mask) in values.iter().zip(masks.iter()) {
+            write!(f, "  {}", BitsText(*value, *mask))?;
         }
         Ok(())
     }
@@ -220,17 +203,13 @@ struct BitsText(u8, u8);
 
 impl fmt::Display for BitsText {
     fn fmt<W: fmt::Write>(&self, f: &mut fmt::Formatter<W>) -> fmt::Result {
-        let mut value = self.0;
-        let mut mask = self.1;
-        for _ in 0..8 {
-            let bit = match (mask & 0x80, value & 0x80) {
-                (0, _) => "x",
-                (_, 0) => "0",
-                _ => "1",
-            };
-            write!(f, "{bit}")?;
-            value = value.rotate_left(1);
-            mask = mask.rotate_left(1);
+        let BitsText(value, mask) = *self;
+        for bit in [0x80, 0x40, 0x20, 0x10, 8, 4, 2, 1] {
+            f.write_char(match (mask & bit, value & bit) {
+                (0, _) => 'x',
+                (_, 0) => '0',
+                _ => '1',
+            })?;
         }
         Ok(())
     }

@@ -1,13 +1,12 @@
 // A packet's walk as a person reads it.
-use crate::failure::Failure;
-use crate::graph_text::kind_name;
-use crate::refusal_text::RefusalText;
 use captures::format::{HEADER, is_capture, open};
 use captures::records::next;
+use console::failure::Failure;
 use graphs::graph::Graph;
 use headers::kinds::Kind;
 use headers::mark::Mark;
 use headers::part::payload;
+use refusals::refusal::Refusal;
 use std::io;
 use walker::walk::{MOST_MARKS, walk};
 use walks::outcome::Outcome;
@@ -22,12 +21,18 @@ const NO_MARK: Mark = Mark {
 /// Walks each packet of a capture through the graph, or the one packet that the file is, and prints
 /// its marks and how its walk ended. A packet that is refused is passed over. Fails where the capture
 /// is cut or not of Ethernet, once what came before is printed.
-pub fn print_walks<'a>(rt: &HostRuntime, graph: &Graph, file: &[u8]) -> Result<(), Failure<'a>> {
+pub fn print_walks<'a>(
+    rt: &(impl Print + AllocGlobal),
+    graph: &Graph,
+    file: &[u8],
+) -> Result<(), Failure<'a>> {
     if !is_capture(file) {
         return print_walk(rt, graph, file);
     }
     let format = open(file)?;
     let mut offset = HEADER;
+    // A record's place is known only from the one before it, and a fault ends the records: so a loop.
+    // Counted by hand: a cut record ends the reading at once, and the count is told after the last.
     let mut count: usize = 0;
     while let Some(record) = next(file, format, offset)? {
         let length = record.packet.len();
@@ -41,22 +46,26 @@ pub fn print_walks<'a>(rt: &HostRuntime, graph: &Graph, file: &[u8]) -> Result<(
 }
 
 // Prints the packet's walk, or why it is refused.
-fn print_or_refuse<'a>(rt: &HostRuntime, graph: &Graph, packet: &[u8]) -> Result<(), Failure<'a>> {
+fn print_or_refuse<'a>(
+    rt: &(impl Print + AllocGlobal),
+    graph: &Graph,
+    packet: &[u8],
+) -> Result<(), Failure<'a>> {
     match print_walk(rt, graph, packet) {
-        Err(Failure::Refused(refusal)) => {
-            let text = RefusalText(refusal);
-            println!(rt; "refused: {text}")?;
-            Ok(())
-        }
+        Err(Failure::Refused(refusal)) => Ok(println!(rt; "refused: {refusal}")?),
         other => other,
     }
 }
 
 // Walks the packet through the graph, and prints its marks and how the walk ended. Refused as the
 // walk is, by 4 to 6, 10 and 11.
-fn print_walk<'a>(rt: &HostRuntime, graph: &Graph, packet: &[u8]) -> Result<(), Failure<'a>> {
+fn print_walk<'a>(
+    rt: &(impl Print + AllocGlobal),
+    graph: &Graph,
+    packet: &[u8],
+) -> Result<(), Failure<'a>> {
     let mut marks = vec![in rt.alloc(); NO_MARK; MOST_MARKS]?;
-    let walked = walk(graph, packet, marks.as_mut_slice())?;
+    let walked = walk(graph, packet, marks.as_mut_slice()).map_err(Refusal::from)?;
     println!(rt; "node  kind      offset  length")?;
     for mark in marks.iter().take(walked.marks) {
         print_mark(rt, mark)?;
@@ -64,27 +73,28 @@ fn print_walk<'a>(rt: &HostRuntime, graph: &Graph, packet: &[u8]) -> Result<(), 
     print_outcome(rt, packet, walked.outcome)
 }
 
-fn print_mark(rt: &HostRuntime, mark: &Mark) -> io::Result<()> {
-    let node = mark.node;
-    let offset = mark.offset;
-    let length = mark.length;
-    let kind = match Kind::from_number(mark.kind) {
-        Some(kind) => kind_name(kind),
-        None => "unknown",
-    };
-    println!(rt; "{node:>4}  {kind:<8}  {offset:>6}  {length:>6}")
+fn print_mark(rt: &impl Print, mark: &Mark) -> io::Result<()> {
+    let Mark {
+        node,
+        kind,
+        offset,
+        length,
+    } = *mark;
+    match Kind::try_from(kind) {
+        Ok(kind) => println!(rt; "{node:>4}  {kind:<8}  {offset:>6}  {length:>6}"),
+        Err(_) => println!(rt; "{node:>4}  unknown   {offset:>6}  {length:>6}"),
+    }
 }
 
 // Where the payload begins and how long it is, or the number by which the walk ended.
-fn print_outcome<'a>(rt: &HostRuntime, packet: &[u8], outcome: Outcome) -> Result<(), Failure<'a>> {
+fn print_outcome<'a>(rt: &impl Print, packet: &[u8], outcome: Outcome) -> Result<(), Failure<'a>> {
     match outcome.refusal() {
-        Some(refusal) => {
-            let text = RefusalText(refusal);
-            println!(rt; "ended: {text}")?;
-        }
+        Some(refusal) => println!(rt; "ended: {refusal}")?,
         None => {
             let offset = outcome.offset;
-            let length = payload(packet, offset as usize)?.len();
+            let length = payload(packet, offset as usize)
+                .map_err(Refusal::from)?
+                .len();
             println!(rt; "done: payload at {offset}, {length} bytes")?;
         }
     }

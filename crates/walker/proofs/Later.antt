@@ -1,36 +1,31 @@
 -- In a sound graph a row leads to a later node of the graph.
+use Rattle.std.specs.Option.{option_map}
 use Rattle.std.proofs.Common.{◌≡◌, ℕ, suc, ◌+◌, ◌/◌, ◌^◌, ◌<◌, Bool, true, false, cond, List, [], ◌∷◌, length, Some, None, Option, ap, inl, inr, arith}
 use Rattle.std.proofs.lemmas.List.{get_or_past}
 use Rattle.std.proofs.lemmas.Bool.{cases_lt}
-use Rattle.refusals.specs.Searching.{wrapped}
+use Rattle.std.proofs.lemmas.List.Quantifiers.{position-Some}
 use Rattle.headers.specs.declared.kinds.Kind.{Kind}
 use Rattle.patterns.specs.declared.row.Target.{Target}
 use Rattle.patterns.specs.declared.row.Target.TheVariants as to
 use Rattle.patterns.specs.Sorts.{ternary_of, ternary_fits, span_of, span_fits}
-use Rattle.patterns.specs.Finding.{first_from, row_fits}
+use Rattle.patterns.specs.Finding.{row_fits}
 use Rattle.graphs.specs.declared.fault.GraphFault.TheVariants.{Target as AtTarget}
 use Rattle.graphs.specs.View.{RowsView, ternary_rows, range_rows, NodeView, node_at, row_count, target_of}
 use Rattle.graphs.specs.Deciding.{fitting, decide}
 use Rattle.walker.specs.Refusals.{Sound}
 
--- what a search finds is a place of the list
-first_below : {X : Type 0} (f : ℕ → X → Bool) (i : ℕ) (xs : List X) (k : ℕ) → first_from f i xs ≡ Some k → k < i + length xs
-first_below f i [] k e = let z : ◌≡◌ {A = ℕ} 0 1 = cc in absurd (omega arith)
-first_below f i (x ∷ xs) k e = here (f i x) (first_below f (i + 1) xs k) e
-  where
-    here : (b : Bool) → (first_from f (i + 1) xs ≡ Some k → k < i + 1 + length xs) → cond b (Some i) (first_from f (i + 1) xs) ≡ Some k → k < i + suc (length xs)
-    here true rest e = let s : i ≡ k = cc in omega arith
-    here false rest e = let h = rest e in omega arith
-
+-- a deciding row is a row of the list
 fitting_below : (rows : RowsView) (key k : ℕ) → fitting rows key ≡ Some k → k < row_count rows
-fitting_below (ternary_rows rs) key k e = let h = first_below (λ _ row. row_fits ternary_of ternary_fits key row) 0 rs k e in omega arith
-fitting_below (range_rows rs) key k e = let h = first_below (λ _ row. row_fits span_of span_fits (key / 2 ^ 16) row) 0 rs k e in omega arith
+fitting_below (ternary_rows rs) key k e =
+    (position-Some (row_fits ternary_of ternary_fits key) rs k (record { value = 0; mask = 0; target = to.Done }) e).0
+fitting_below (range_rows rs) key k e =
+    (position-Some (row_fits span_of span_fits (key / 2 ^ 16)) rs k (record { low = 0; high = 0; target = to.Done }) e).0
 
 -- the target of a deciding row is the target of a row
 decided : (rows : RowsView) (key : ℕ) (t : Target) → decide rows key ≡ Some t → (k : ℕ) × (k < row_count rows) × (target_of rows k ≡ t)
 decided rows key t e = from (fitting rows key) (fitting_below rows key) e
   where
-    from : (o : Option ℕ) → ((k : ℕ) → o ≡ Some k → k < row_count rows) → wrapped (target_of rows) o ≡ Some t → (k : ℕ) × (k < row_count rows) × (target_of rows k ≡ t)
+    from : (o : Option ℕ) → ((k : ℕ) → o ≡ Some k → k < row_count rows) → option_map (target_of rows) o ≡ Some t → (k : ℕ) × (k < row_count rows) × (target_of rows k ≡ t)
     from None below s = let z : ◌≡◌ {A = ℕ} 0 1 = cc in absurd (omega arith)
     from (Some k) below s = (k, below k (cc), cc)
 

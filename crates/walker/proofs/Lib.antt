@@ -1,4 +1,5 @@
 pub mod Heading
+pub mod Keying
 pub mod Refused
 pub mod Later
 pub mod Stepping

@@ -1,5 +1,5 @@
 -- The marks of a walk, written one behind the other.
-use Rattle.std.proofs.Common.{◌≡◌, ℕ, ◌+◌, ◌<◌, ◌≤◌, List, [], ◌∷◌, ◌++◌, length, get_or, drop, set, sym, refl, ap, ◌∙◌, subst, arith}
+use Rattle.std.proofs.Common.{◌≡◌, ℕ, ◌+◌, ◌<◌, ◌≤◌, List, [], ◌∷◌, ◌++◌, length, get_or, drop, set, sym, ap, ◌∙◌, subst, arith}
 use Rattle.std.proofs.lemmas.List.{append-nil, append_assoc, length-append, at_drop_more, set_at}
 use Rattle.headers.specs.declared.kinds.Kind.{Kind}
 use Rattle.headers.specs.declared.mark.Mark.{Mark}
@@ -36,9 +36,6 @@ pub record Walking (minimum : Kind → ℕ) (g : List NodeView) (p : List ℕ) (
   pub within : at ≤ length p
 
 module _ (minimum : Kind → ℕ) (g : List NodeView) (p : List ℕ) (before : List Mark) where
-  pub walk_begins : Walking minimum g p before before 0 0 0
-  walk_begins = record { ws = []; walks = λ ms o w. w; stand = refl; many = refl; few = omega arith; low = omega arith; within = omega arith }
-
   module _ (now : List Mark) (n at k : ℕ) (w : Walking minimum g p before now n at k) where
     -- it stops at a header that is not marked
     pub walk_stops : (o : Outcome) → Walk minimum g p n at [] o → WalkedAs minimum g p before now (record { outcome = o; marks = k })

@@ -1,7 +1,8 @@
 -- What a walk tells is the least fault that applies.
+use Rattle.std.specs.Option.{option_or, option_map}
 use Rattle.std.proofs.Common.{◌≡◌, ℕ, ◌≤◌, false, leb, ◌⊎◌, List, Some, None, sym, refl, ap, ◌∙◌, subst, inl, inr, arith}
 use Rattle.std.proofs.lemmas.Bool.{cases_lt, leb-false, lt-leb}
-use Rattle.refusals.specs.Searching.{or_else, unless, wrapped}
+use Rattle.refusals.specs.Searching.{unless}
 use Rattle.refusals.specs.Least.{rank, NotAfter, Least}
 use Rattle.refusals.proofs.Lowest.{Lowest, lowest_like, lowest_or, lowest_unless, lowest_wrapped}
 use Rattle.headers.specs.declared.kinds.Kind.{Kind}
@@ -50,7 +51,7 @@ module _ (minimum : Kind → ℕ) (g : List NodeView) (size room : ℕ) where
         | inl w ↦ inl (omega (arith, ap (λ x. rank (of_walk x)) p.1, graph_ranks p.0, ap (λ x. rank (of_walk x)) w.0))
         | inr w ↦ inl (omega (arith, ap (λ x. rank (of_walk x)) p.1, graph_ranks p.0, ap (λ x. rank (of_walk x)) w.0))
       ])
-      (wrapped Graph (graph_fault minimum g)) (or_else (unless (leb size 9600) LongPacket) (unless (leb 32 room) FewMarks))
+      (option_map Graph (graph_fault minimum g)) (option_or (unless (leb size 9600) LongPacket) (unless (leb 32 room) FewMarks))
       (lowest_wrapped order Graph (GraphApplies minimum g) (graph_fault minimum g) (graph_lowest minimum g))
       (lowest_or order OfPacket OfMarks
       (λ e d p q. inl (omega (arith, ap (λ x. rank (of_walk x)) p.0, ap (λ x. rank (of_walk x)) q.0)))

@@ -1,5 +1,5 @@
 -- What the checks of a header and its deciding row say of the walk.
-use Rattle.std.proofs.Common.{◌≡◌, ℕ, Bool, true, false, ltb, List, [], length, take, Some, None, Option, sym, refl, ap, ◌∙◌, subst, arith}
+use Rattle.std.proofs.Common.{◌≡◌, ℕ, Bool, true, false, ltb, List, [], length, Some, None, Option, sym, refl, ap, ◌∙◌, subst, arith}
 use Rattle.std.proofs.lemmas.Bool.{both_ways, ltb-true, ltb-false}
 use Rattle.headers.specs.declared.kinds.Kind.{Kind}
 use Rattle.headers.specs.declared.mark.Mark.{Mark}
@@ -15,10 +15,9 @@ use Rattle.walks.specs.Walk.{measured, reads, size_at, past, mark_at, decide_at,
 use Rattle.walks.specs.Outcomes.{outcome}
 use Rattle.walks.specs.Turning.{held, checked}
 use Rattle.walks.proofs.Steps.{decides_held}
-use Rattle.walker.specs.declared.step.Head.{Head}
 use Rattle.walker.specs.declared.step.Step.{Step}
 use Rattle.walker.specs.Headers.{header_refusal, key_of}
-use Rattle.walker.specs.Steps.{HeadOf, step_to, Stepped}
+use Rattle.walker.specs.Steps.{step_to, Stepped}
 
 module _ (minimum : Kind → ℕ) (g : List NodeView) (p : List ℕ) (n at : ℕ) where
   abbrev v : NodeView
@@ -56,30 +55,29 @@ module _ (minimum : Kind → ℕ) (g : List NodeView) (p : List ℕ) (n at : ℕ
   decided_by h (Some to.Done) e = walk.ends h e
   decided_by h (Some (to.Node m)) e = record { decides = e; within = h.within; walks = λ ms o w. walk.on h e w }
 
-  -- the same, from a node's head
-  module _ (head : Head) (is : HeadOf head v) (places : List ℕ) (named : places ≡ take head.place_count head.places)
-      (least : ℕ) (fewest : least ≡ minimum head.kind) where
-    here : header_refusal p at least head.length places ≡ ended
-    here =
-        ap (λ m. header_refusal p at m head.length places) (fewest ∙ ap minimum is.kind)
-        ∙ ap (λ l. header_refusal p at (minimum v.kind) l places) is.len ∙ ap (header_refusal p at (minimum v.kind) v.len) (named ∙ is.places)
+  -- the same, from a node
+  module _ (here : NodeView) (is : here ≡ v) (places : List ℕ) (named : places ≡ here.places) (least : ℕ) (fewest : least ≡ minimum here.kind) where
+    told : header_refusal p at least here.len places ≡ ended
+    told =
+        ap (λ m. header_refusal p at m here.len places) fewest ∙ ap (header_refusal p at (minimum here.kind) here.len) named
+        ∙ ap (λ x. header_refusal p at (minimum x.kind) x.len x.places) is
 
-    pub head_refused : (e : Ending) → Some e ≡ header_refusal p at least head.length places → Walk minimum g p n at [] (outcome e n at)
-    head_refused e s = walk.refused (refused_by_lem _ _ _ refl refl refl e (s ∙ here))
+    pub node_refused : (e : Ending) → Some e ≡ header_refusal p at least here.len places → Walk minimum g p n at [] (outcome e n at)
+    node_refused e s = walk.refused (refused_by_lem _ _ _ refl refl refl e (s ∙ told))
 
-    pub head_passes : None ≡ header_refusal p at least head.length places → Header minimum g p n at
-    head_passes s = header_by _ _ _ refl refl refl (s ∙ here)
+    pub node_passes : None ≡ header_refusal p at least here.len places → Header minimum g p n at
+    node_passes s = header_by _ _ _ refl refl refl (s ∙ told)
 
-    module _ (size : ℕ) (measures : size ≡ measured head.length p at) where
+    module _ (size : ℕ) (measures : size ≡ measured here.len p at) where
       pub size_is : size ≡ size_at g p n at
-      size_is = measures ∙ ap (λ l. measured l p at) is.len
+      size_is = measures ∙ ap (λ x. measured x.len p at) is
 
-      pub head_decides : None ≡ header_refusal p at least head.length places
-          → (m : Mark) → m ≡ record { node = n; kind = kind_number head.kind; offset = at; length = size } → (key : ℕ) → key ≡ key_of p at places → (o : Option Target) → o ≡ decide v.rows key
+      pub node_decides : None ≡ header_refusal p at least here.len places
+          → (m : Mark) → m ≡ record { node = n; kind = kind_number here.kind; offset = at; length = size } → (key : ℕ) → key ≡ key_of p at places → (o : Option Target) → o ≡ decide v.rows key
           → (s : Step) → s ≡ step_to m o → Stepped minimum g p n at s
-      head_decides none m marks key spells o decides s leads =
+      node_decides none m marks key spells o decides s leads =
           let mark : m ≡ mark_at g p n at =
-          marks ∙ ap (λ k. record { node = n; kind = kind_number k; offset = at; length = size }) is.kind
+          marks ∙ ap (λ x. record { node = n; kind = kind_number x.kind; offset = at; length = size }) is
           ∙ ap (λ l. record { node = n; kind = kind_number v.kind; offset = at; length = l }) size_is in
-          let target : decide_at g p n at ≡ o = ap (decide v.rows) (sym (spells ∙ ap (key_of p at) (named ∙ is.places))) ∙ sym decides in
-          subst (Stepped minimum g p n at) (sym (leads ∙ ap (λ m. step_to m o) mark)) (decided_by (head_passes none) o target)
+          let target : decide_at g p n at ≡ o = ap (decide v.rows) (sym (spells ∙ ap (key_of p at) named ∙ ap (λ x. key_of p at x.places) is)) ∙ sym decides in
+          subst (Stepped minimum g p n at) (sym (leads ∙ ap (λ m. step_to m o) mark)) (decided_by (node_passes none) o target)

@@ -1,6 +1,7 @@
 -- What a walk is refused for.
+use Rattle.std.specs.Option.{option_or, option_map}
 use Rattle.std.specs.Prelude.{ℕ, ◌<◌, List, Option, nat_le}
-use Rattle.refusals.specs.Searching.{or_else, unless, wrapped}
+use Rattle.refusals.specs.Searching.{unless}
 use Rattle.headers.specs.declared.kinds.Kind.{Kind}
 use Rattle.graphs.specs.declared.fault.GraphFault.{GraphFault}
 use Rattle.graphs.specs.View.{NodeView}
@@ -18,7 +19,7 @@ module _ (minimum : Kind → ℕ) (g : List NodeView) where
 
   -- the first of them, as a test
   abbrev pub walk_fault : (size room : ℕ) → Option WalkFault
-  walk_fault size room = or_else (wrapped Graph (graph_fault minimum g)) (or_else (unless (nat_le size 9600) LongPacket) (unless (nat_le 32 room) FewMarks))
+  walk_fault size room = option_or (option_map Graph (graph_fault minimum g)) (option_or (unless (nat_le size 9600) LongPacket) (unless (nat_le 32 room) FewMarks))
 
   -- no fault of a graph applies
   abbrev pub Sound : Type 0

@@ -1,5 +1,5 @@
 -- One step of a walk, and what it says of the walk from its node and offset on.
-use Rattle.std.specs.Prelude.{◌≡◌, ℕ, ◌+◌, ◌≤◌, List, [], ◌∷◌, length, take, Some, None, Option}
+use Rattle.std.specs.Prelude.{◌≡◌, ℕ, ◌+◌, ◌≤◌, List, [], ◌∷◌, length, Some, None, Option}
 use Rattle.headers.specs.declared.kinds.Kind.{Kind}
 use Rattle.headers.specs.declared.mark.Mark.{Mark}
 use Rattle.patterns.specs.declared.row.Target.{Target}
@@ -9,15 +9,8 @@ use Rattle.walks.specs.declared.outcome.Ending.TheVariants.{Done, Unfit, Dropped
 use Rattle.walks.specs.declared.outcome.Outcome.{Outcome}
 use Rattle.walks.specs.Outcomes.{outcome}
 use Rattle.walks.specs.Walk.{decide_at, Walk}
-use Rattle.walker.specs.declared.step.Head.{Head}
 use Rattle.walker.specs.declared.step.Step.{Step}
 use Rattle.walker.specs.declared.step.Step.TheVariants.{Stop, Last, On}
-
--- the head has the kind, the length rule and the lookup places of a node
-pub record HeadOf (h : Head) (v : NodeView) : Type 0 where
-  pub kind : h.kind ≡ v.kind
-  pub len : h.length ≡ v.len
-  pub places : take h.place_count h.places ≡ v.places
 
 -- where the target of the deciding row leads behind a marked header
 abbrev pub step_to : Mark → Option Target → Step

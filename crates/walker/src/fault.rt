@@ -1,6 +1,6 @@
 // What a walk is refused for.
 ghost use Rattle.std.specs.Prelude.{◌≡◌};
-ghost use Rattle.walker.specs.Faults.{of_walk, of_room};
+ghost use Rattle.walker.specs.Faults.{of_walk};
 ghost use Rattle.walker.specs.declared.fault.WalkFault.TheVariants.{Graph};
 
 use graphs::fault::GraphFault;
@@ -15,27 +15,15 @@ pub enum WalkFault {
     FewMarks,
 }
 
-impl WalkFault {
-    /// The fault's number, layer and place. Nothing is refused.
-    pub fn refusal(self) -> Refusal
-        ensures { result ≡ of_walk self }
-    {
-        match self {
-            WalkFault::Graph(fault) => fault.refusal(),
-            WalkFault::LongPacket => Self::of_room(10),
-            WalkFault::FewMarks => Self::of_room(11),
-        }
-    }
+/// The fault's number, layer and place.
+impl From<WalkFault> for Refusal {
+    ghost from_gives = { λ fault refusal. refusal ≡ of_walk fault };
 
-    // A refusal of the layer 'read', which names no place.
-    fn of_room(number: u8) -> Refusal
-        ensures { result ≡ of_room number }
-    {
-        Refusal {
-            number,
-            layer: Layer::Read,
-            first: 0,
-            second: 0,
+    fn from(fault: WalkFault) -> Refusal {
+        match fault {
+            WalkFault::Graph(fault) => Refusal::from(fault),
+            WalkFault::LongPacket => Refusal::new(10, Layer::Read),
+            WalkFault::FewMarks => Refusal::new(11, Layer::Read),
         }
     }
 }

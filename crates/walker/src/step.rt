@@ -2,12 +2,11 @@
 ghost use Rattle.std.specs.Prelude.{◌≡◌, ◌+◌, ◌≤◌, length};
 ghost use Rattle.headers.specs.Kinds.{kind_number};
 ghost use Rattle.headers.specs.Table.{minimum_in};
-ghost use Rattle.graphs.specs.View.{graph_view, node_at};
-ghost use Rattle.walker.specs.Steps.{HeadOf, step_to, Stepped};
+ghost use Rattle.graphs.specs.View.{graph_view};
+ghost use Rattle.walker.specs.Steps.{step_to, Stepped};
 
-use crate::header::{header_refusal, key, measure};
-use graphs::graph::{Graph, Length, PLACES};
-use graphs::named::named;
+use crate::header::HeaderAt;
+use graphs::graph::Graph;
 use headers::kinds::Kind;
 use headers::mark::Mark;
 use headers::table::KindTable;
@@ -22,33 +21,39 @@ pub(crate) enum Step {
     On { mark: Mark, node: u8, at: u32 },
 }
 
-// What a step needs of a node besides its rows.
+/// A packet that is walked through a graph, by a table of kinds.
 #[derive(Clone, Copy)]
-struct Head {
-    kind: Kind,
-    length: Length,
-    place_count: u8,
-    places: [u8; PLACES],
+pub(crate) struct Course<'a> {
+    pub(crate) table: &'a KindTable,
+    pub(crate) graph: &'a Graph,
+    pub(crate) packet: &'a [u8],
 }
 
-/// One step from a node at an offset. A refused header stops the walk.
-pub(crate) fn step_at(table: &KindTable, graph: &Graph, packet: &[u8], node: u8, at: u32) -> Step
-    requires { (at ≤ length packet.now) × (length packet.now ≤ 9600) }
-    ensures steps { Stepped (minimum_in table.now) (graph_view graph.now) packet.now node at result }
-    ensures few { length (graph_view graph.now) ≤ 32 }
-{
-    let head = head_at(graph, node);
-    let places = named(&head.places, head.place_count);
-    let minimum = table.minimum(head.kind);
-    if let Some(ending) = header_refusal(packet, at, minimum, head.length, places) {
-        return Step::Stop(Outcome {
-            ending,
-            node,
-            offset: at as u16,
-        });
+impl<'a> Course<'a> {
+    /// One step from a node at an offset. A refused header stops the walk.
+    pub(crate) fn step(&self, node: u8, at: u32) -> Step
+        requires { (at ≤ length self.now.packet.now) × (length self.now.packet.now ≤ 9600) }
+        ensures steps { Stepped (minimum_in self.now.table.now) (graph_view self.now.graph.now) self.now.packet.now node at result }
+        ensures few { length (graph_view self.now.graph.now) ≤ 32 }
+    {
+        let here = self.graph.node(node);
+        let places = here.lookup();
+        let header = HeaderAt {
+            packet: self.packet,
+            at,
+        };
+        match header.check(self.table.minimum(here.kind), here.length, places) {
+            Err(ending) => Step::Stop(Outcome {
+                ending,
+                node,
+                offset: at as u16,
+            }),
+            Ok(size) => {
+                let mark = mark_of(node, here.kind, at, size);
+                follow(mark, self.graph.decide(node, header.key(places)))
+            }
+        }
     }
-    let mark = mark_of(node, head.kind, at, measure(head.length, packet, at));
-    follow(mark, graph.decide(node, key(packet, at, places)))
 }
 
 // The mark of a header.
@@ -58,30 +63,9 @@ fn mark_of(node: u8, kind: Kind, at: u32, size: u32) -> Mark
 {
     Mark {
         node,
-        kind: kind.number(),
+        kind: u8::from(kind),
         offset: at as u16,
         length: size as u16,
-    }
-}
-
-// A node's head: blank if the graph has no such node.
-fn head_at(graph: &Graph, node: u8) -> Head
-    ensures is { HeadOf result (node_at (graph_view graph.now) node) }
-    ensures few { length (graph_view graph.now) ≤ 32 }
-{
-    match graph.named_nodes().get(node as usize) {
-        Some(node) => Head {
-            kind: node.kind,
-            length: node.length,
-            place_count: node.place_count,
-            places: node.places,
-        },
-        None => Head {
-            kind: Kind::Ethernet,
-            length: Length::Fixed(0),
-            place_count: 0,
-            places: [0; PLACES],
-        },
     }
 }
 

@@ -9,7 +9,7 @@ ghost use Rattle.walker.specs.Refusals.{WalkApplies, Sound, walk_fault};
 ghost use Rattle.walker.specs.Walked.{WalkedAs};
 
 use crate::fault::WalkFault;
-use crate::step::{Step, step_at};
+use crate::step::{Course, Step};
 use graphs::check::check_graph;
 use graphs::graph::Graph;
 use headers::mark::Mark;
@@ -52,7 +52,12 @@ pub fn walk_by(
     ensures kept { OnErr result (marks.new ≡ marks.old) }
 {
     first_fault(table, graph, packet.len(), marks.len())?;
-    Ok(walk_on(table, graph, packet, marks))
+    let course = Course {
+        table,
+        graph,
+        packet,
+    };
+    Ok(course.walk(marks))
 }
 
 // What a walk is refused for, in the order of the numbers.
@@ -69,40 +74,43 @@ fn first_fault(table: &KindTable, graph: &Graph, size: usize, room: usize) -> Re
     Ok(())
 }
 
-// The walk itself, through a sound graph.
-fn walk_on(table: &KindTable, graph: &Graph, packet: &[u8], marks: &mut [Mark]) -> Walked
-    requires sound { Sound (minimum_in table.now) (graph_view graph.now) }
-    requires fits { length packet.now ≤ 9600 }
-    requires room { 32 ≤ length marks.old }
-    ensures { WalkedAs (minimum_in table.now) (graph_view graph.now) packet.now marks.old marks.new result }
-{
-    let mut node = 0;
-    let mut at = 0;
-    let mut count = 0;
-    loop {
-        match step_at(table, graph, packet, node, at) {
-            Step::Stop(outcome) => {
-                return Walked {
-                    outcome,
-                    marks: count,
-                };
-            }
-            Step::Last { mark, outcome } => {
-                marks[count] = mark;
-                return Walked {
-                    outcome,
-                    marks: count + 1,
-                };
-            }
-            Step::On {
-                mark,
-                node: next,
-                at: past,
-            } => {
-                marks[count] = mark;
-                count += 1;
-                node = next;
-                at = past;
+impl<'a> Course<'a> {
+    // The walk itself, through a sound graph.
+    fn walk(&self, marks: &mut [Mark]) -> Walked
+        requires sound { Sound (minimum_in self.now.table.now) (graph_view self.now.graph.now) }
+        requires fits { length self.now.packet.now ≤ 9600 }
+        requires room { 32 ≤ length marks.old }
+        ensures { WalkedAs (minimum_in self.now.table.now) (graph_view self.now.graph.now) self.now.packet.now marks.old marks.new result }
+    {
+        let mut node = 0;
+        let mut at = 0;
+        // The marks go to the front of the caller's slice, and a device has no heap: so a count.
+        let mut count = 0;
+        loop {
+            match self.step(node, at) {
+                Step::Stop(outcome) => {
+                    return Walked {
+                        outcome,
+                        marks: count,
+                    };
+                }
+                Step::Last { mark, outcome } => {
+                    marks[count] = mark;
+                    return Walked {
+                        outcome,
+                        marks: count + 1,
+                    };
+                }
+                Step::On {
+                    mark,
+                    node: next,
+                    at: past,
+                } => {
+                    marks[count] = mark;
+                    count += 1;
+                    node = next;
+                    at = past;
+                }
             }
         }
     }

@@ -1,4 +1,5 @@
 -- A graph that reading accepts is sound: each fact is what some test of the file's bytes or of the graph says.
+use Rattle.std.specs.Option.{option_or, option_map}
 use Rattle.std.proofs.Common.{◌≡◌, ℕ, zero, suc, ◌+◌, ◌*◌, ◌^◌, ◌<◌, ◌≤◌, Bool, true, false, cond, eqb, ltb, leb, List, [], ◌∷◌, map, length, Some, None, Ok, Option, sym, refl, ap, ◌∙◌, subst, ap₂, arith}
 use lib.Bits.{bit_and, and_zero_l}
 use Rattle.std.specs.List.{range_with_len, AllByRecursion}
@@ -6,7 +7,7 @@ use Rattle.std.proofs.lemmas.List.FromFn.{length-map-range_with_len, get_or-map-
 use Rattle.std.proofs.lemmas.List.{length-take-le}
 use Rattle.std.proofs.lemmas.Bool.{and_parts, and_from, leb-true, ltb-true, lt-ltb, le-ltb, eqb-true, eq-eqb, cond-true, cond-false, cond_both}
 use Rattle.std.proofs.lemmas.Bool.Decides.{nat_tests}
-use Rattle.refusals.specs.Searching.{or_else, wrapped, unless_fault}
+use Rattle.refusals.specs.Searching.{unless_fault}
 use Rattle.refusals.proofs.Searching.{or_else_none, wrapped_none, unless_none, nowhere, holds}
 use Rattle.headers.specs.declared.kinds.Kind.{Kind}
 use Rattle.patterns.specs.declared.row.Target.{Target}
@@ -161,12 +162,12 @@ module _ (minimum : Kind → ℕ) (vs : List NodeView) (clean : graph_fault mini
   nodes_clear f e n h = nowhere (node_fault f vs) (length vs) 0 e n (omega arith) (omega arith)
 
   no_target : first_node (target_fault (length vs)) vs ≡ None
-  no_target = (or_else_none (first_node (target_fault (length vs)) vs) (or_else (first_node covered_fault vs) (first_node (short_fault minimum) vs)) clean).0
+  no_target = (or_else_none (first_node (target_fault (length vs)) vs) (option_or (first_node covered_fault vs) (first_node (short_fault minimum) vs)) clean).0
 
   no_short : first_node (short_fault minimum) vs ≡ None
   no_short =
       (or_else_none (first_node covered_fault vs) (first_node (short_fault minimum) vs)
-      (or_else_none (first_node (target_fault (length vs)) vs) (or_else (first_node covered_fault vs) (first_node (short_fault minimum) vs)) clean).1).1
+      (or_else_none (first_node (target_fault (length vs)) vs) (option_or (first_node covered_fault vs) (first_node (short_fault minimum) vs)) clean).1).1
 
   pub targets_onward : (n : ℕ) → n < length vs → (k : ℕ) → k < row_count (node_at vs n).rows → Onward (length vs) n (target_of (node_at vs n).rows k)
   targets_onward n h k l =
@@ -188,7 +189,7 @@ module _ (minimum : Kind → ℕ) (f : List ℕ) (byte : (i : ℕ) → at f i < 
   shaped = shape_says f (unless_none (shape_right f) Shape parts.0)
 
   graph_clear : graph_fault minimum (nodes_in f) ≡ None
-  graph_clear = wrapped_none Graph (graph_fault minimum (nodes_in f)) (or_else_none (wrapped File (file_fault f)) (wrapped Graph (graph_fault minimum (nodes_in f))) clean).1
+  graph_clear = wrapped_none Graph (graph_fault minimum (nodes_in f)) (or_else_none (option_map File (file_fault f)) (option_map Graph (graph_fault minimum (nodes_in f))) clean).1
 
   count_is : length (nodes_in f) ≡ at f 0
   count_is = length-map-range_with_len (λ i. node_in (record_at f i)) 0 (at f 0)

@@ -1,8 +1,9 @@
 -- The first that fits, in lists made of others, and as a store finds it.
+use Rattle.std.specs.Option.{option_or, option_map}
 use Rattle.std.proofs.Common.{◌≡◌, ℕ, ◌+◌, Bool, true, false, cond, ◌||◌, List, [], ◌∷◌, ◌++◌, map, get_or, Some, None, Option, refl, ap, ◌∙◌, add-one, arith}
-use Rattle.std.specs.List.{AllByRecursion}
-use Rattle.refusals.specs.Searching.{or_else, wrapped}
-use Rattle.patterns.specs.Finding.{first_from, some}
+use Rattle.std.specs.List.{AllByRecursion, position, list_any}
+use Rattle.patterns.specs.Finding.{first_from}
+use Rattle.patterns.proofs.Finding.{position_first}
 use Rattle.stores.specs.declared.question.Question.{Question}
 use Rattle.stores.specs.Fits.{fits}
 use Rattle.stores.specs.Meaning.{later}
@@ -14,16 +15,16 @@ abbrev pub first_fit : {X Y : Type 0} → (X → Bool) → (X → Y) → List X 
 first_fit fits give [] = None
 first_fit fits give (x ∷ xs) = cond (fits x) (Some (give x)) (first_fit fits give xs)
 
-cond_over : {Y : Type 0} (b : Bool) (y : Y) (o e : Option Y) → cond b (Some y) (or_else o e) ≡ or_else (cond b (Some y) o) e
+cond_over : {Y : Type 0} (b : Bool) (y : Y) (o e : Option Y) → cond b (Some y) (option_or o e) ≡ option_or (cond b (Some y) o) e
 cond_over true y o e = refl
 cond_over false y o e = refl
 
-pub or_else_none : {Y : Type 0} (o : Option Y) → or_else o None ≡ o
+pub or_else_none : {Y : Type 0} (o : Option Y) → option_or o None ≡ o
 or_else_none None = refl
 or_else_none (Some y) = refl
 
 module _ {X Y : Type 0} (fits : X → Bool) (give : X → Y) where
-  pub fit_append : (xs ys : List X) → first_fit fits give (xs ++ ys) ≡ or_else (first_fit fits give xs) (first_fit fits give ys)
+  pub fit_append : (xs ys : List X) → first_fit fits give (xs ++ ys) ≡ option_or (first_fit fits give xs) (first_fit fits give ys)
   fit_append [] ys = refl
   fit_append (x ∷ xs) ys = ap (cond (fits x) (Some (give x))) (fit_append xs ys) ∙ cond_over (fits x) (give x) _ _
 
@@ -50,33 +51,36 @@ one_value true c y = refl
 one_value false c y = refl
 
 -- where all give the same, it matters only whether one fits
-pub fit_same : {X Y : Type 0} (fits : X → Bool) (y : Y) (xs : List X) → first_fit fits (λ x. y) xs ≡ cond (some fits xs) (Some y) None
+pub fit_same : {X Y : Type 0} (fits : X → Bool) (y : Y) (xs : List X) → first_fit fits (λ x. y) xs ≡ cond (list_any fits xs) (Some y) None
 fit_same fits y [] = refl
-fit_same fits y (x ∷ xs) = ap (cond (fits x) (Some y)) (fit_same fits y xs) ∙ one_value (fits x) (some fits xs) y
+fit_same fits y (x ∷ xs) = ap (cond (fits x) (Some y)) (fit_same fits y xs) ∙ one_value (fits x) (list_any fits xs) y
 
 -- the place of the first, and what stands there
 module _ {X Y : Type 0} (fits : X → Bool) where
-  shifted : (h : ℕ → Y) (xs : List X) (i : ℕ) → wrapped h (first_from (λ _ x. fits x) (i + 1) xs) ≡ wrapped (λ j. h (j + 1)) (first_from (λ _ x. fits x) i xs)
+  shifted : (h : ℕ → Y) (xs : List X) (i : ℕ) → option_map h (first_from (λ _ x. fits x) (i + 1) xs) ≡ option_map (λ j. h (j + 1)) (first_from (λ _ x. fits x) i xs)
   shifted h [] i = refl
   shifted h (x ∷ xs) i = go (fits x) (shifted h xs (i + 1))
     where
-      go : (b : Bool) → wrapped h (first_from (λ _ x. fits x) (i + 1 + 1) xs) ≡ wrapped (λ j. h (j + 1)) (first_from (λ _ x. fits x) (i + 1) xs)
-          → wrapped h (cond b (Some (i + 1)) (first_from (λ _ x. fits x) (i + 1 + 1) xs)) ≡ wrapped (λ j. h (j + 1)) (cond b (Some i) (first_from (λ _ x. fits x) (i + 1) xs))
+      go : (b : Bool) → option_map h (first_from (λ _ x. fits x) (i + 1 + 1) xs) ≡ option_map (λ j. h (j + 1)) (first_from (λ _ x. fits x) (i + 1) xs)
+          → option_map h (cond b (Some (i + 1)) (first_from (λ _ x. fits x) (i + 1 + 1) xs)) ≡ option_map (λ j. h (j + 1)) (cond b (Some i) (first_from (λ _ x. fits x) (i + 1) xs))
       go true e = refl
       go false e = e
 
-  pub place_gives : (give : X → Y) (d : X) (xs : List X) → wrapped (λ i. give (get_or xs i d)) (first_from (λ _ x. fits x) 0 xs) ≡ first_fit fits give xs
+  place_gives : (give : X → Y) (d : X) (xs : List X) → option_map (λ i. give (get_or xs i d)) (first_from (λ _ x. fits x) 0 xs) ≡ first_fit fits give xs
   place_gives give d [] = refl
   place_gives give d (x ∷ xs) = go (fits x) (shifted (λ i. give (get_or (x ∷ xs) i d)) xs 0 ∙ wrapped_like (first_from (λ _ x. fits x) 0 xs) ∙ place_gives give d xs)
     where
-      wrapped_like : (o : Option ℕ) → wrapped (λ j. give (get_or (x ∷ xs) (j + 1) d)) o ≡ wrapped (λ j. give (get_or xs j d)) o
+      wrapped_like : (o : Option ℕ) → option_map (λ j. give (get_or (x ∷ xs) (j + 1) d)) o ≡ option_map (λ j. give (get_or xs j d)) o
       wrapped_like None = refl
       wrapped_like (Some j) = ap (λ n. Some (give (get_or (x ∷ xs) n d))) (add-one j)
 
-      go : (b : Bool) → wrapped (λ i. give (get_or (x ∷ xs) i d)) (first_from (λ _ x. fits x) 1 xs) ≡ first_fit fits give xs
-          → wrapped (λ i. give (get_or (x ∷ xs) i d)) (cond b (Some 0) (first_from (λ _ x. fits x) 1 xs)) ≡ cond b (Some (give x)) (first_fit fits give xs)
+      go : (b : Bool) → option_map (λ i. give (get_or (x ∷ xs) i d)) (first_from (λ _ x. fits x) 1 xs) ≡ first_fit fits give xs
+          → option_map (λ i. give (get_or (x ∷ xs) i d)) (cond b (Some 0) (first_from (λ _ x. fits x) 1 xs)) ≡ cond b (Some (give x)) (first_fit fits give xs)
       go true e = refl
       go false e = e
+
+  pub position_gives : (give : X → Y) (d : X) (xs : List X) → option_map (λ i. give (get_or xs i d)) (position fits xs) ≡ first_fit fits give xs
+  position_gives give d xs = ap (option_map (λ i. give (get_or xs i d))) (position_first fits xs) ∙ place_gives give d xs
 
 -- what rows answer is the action of the first that fits
 act_step : (a : Action) (acts : List Action) (b : Bool) (i : Option ℕ) (o : Option Action) → action_at acts i ≡ o

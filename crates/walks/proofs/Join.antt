@@ -1,7 +1,7 @@
 -- What the rows of a node and its chain answer, byte by byte.
+use Rattle.std.specs.Option.{option_or}
 use Rattle.std.proofs.Common.{◌≡◌, ℕ, suc, Bool, true, false, cond, ◌&&◌, List, [], ◌∷◌, ◌++◌, map, length, Some, None, Option, refl, ap, ◌∙◌, arith}
 use Rattle.std.specs.List.{flat_map, AllByRecursion}
-use Rattle.refusals.specs.Searching.{or_else}
 use Rattle.patterns.specs.declared.row.Target.{Target}
 use Rattle.walks.specs.declared.action.Action.{Action}
 use Rattle.walks.specs.Rows.{action, Piece, Entry, alone, join, closing, leads_to, expand}
@@ -48,7 +48,7 @@ join_cond true true d a o q e f = ap (λ x. cond x (Some (bump a)) o) e
 join_cond true false d a o q e f = ap (λ x. cond x (Some (bump a)) o) e ∙ f
 join_cond false c d a o q e f = ap (λ x. cond x (Some (bump a)) o) e ∙ f
 
-closing_cond : (b d : Bool) (q : Option Action) → d ≡ b → or_else (cond b (bumped q) None) (cond d (Some (action 1 None)) None) ≡ cond b (Some (bump (settled q))) None
+closing_cond : (b d : Bool) (q : Option Action) → d ≡ b → option_or (cond b (bumped q) None) (cond d (Some (action 1 None)) None) ≡ cond b (Some (bump (settled q))) None
 closing_cond true d None e = ap (λ x. cond x (Some (action 1 None)) None) e
 closing_cond true d (Some a) e = refl
 closing_cond false d q e = ap (λ x. cond x (Some (action 1 None)) None) e
@@ -70,11 +70,11 @@ module _ (r : Piece) (k l : List ℕ) (even : length r.cells ≡ length k) where
     where
       go : (b : Bool) → answer_to (cond b (map (join r) es ++ (closing r ∷ [])) (alone r ∷ [])) (k ++ l)
           ≡ cond (fits_cells r.cells k) (Some (cond b (bump (settled (answer_to es l))) (action 0 (Some r.target)))) None
-      go true = fit_append _ _ (map (join r) es) (closing r ∷ []) ∙ ap (λ o. or_else o (answer_to (closing r ∷ []) (k ++ l))) (join_answer es) ∙ closing_cond _ _ (answer_to es l) front
+      go true = fit_append _ _ (map (join r) es) (closing r ∷ []) ∙ ap (λ o. option_or o (answer_to (closing r ∷ []) (k ++ l))) (join_answer es) ∙ closing_cond _ _ (answer_to es l) front
       go false = ap (λ b. cond b (Some (alone r).action) None) front
 
 after_cond : (c : ℕ) (rest : Action) (b : Bool) (t : Target) (o : Option Action) (q : Option Target) → o ≡ after c rest q
-    → or_else (cond b (Some (led c rest t)) None) o ≡ after c rest (cond b (Some t) q)
+    → option_or (cond b (Some (led c rest t)) None) o ≡ after c rest (cond b (Some t) q)
 after_cond c rest true t o q e = refl
 after_cond c rest false t o q e = e
 
@@ -84,5 +84,5 @@ pub chain_answer : (c : ℕ) (es : List Entry) (k l : List ℕ) (rs : List Piece
 chain_answer c es k l [] even = refl
 chain_answer c es k l (r ∷ rs) even =
     fit_append _ _ (expand c es r) (flat_map (expand c es) rs)
-    ∙ ap (λ o. or_else o (answer_to (flat_map (expand c es) rs) (k ++ l))) (expand_answer r k l even.0 c es)
+    ∙ ap (λ o. option_or o (answer_to (flat_map (expand c es) rs) (k ++ l))) (expand_answer r k l even.0 c es)
     ∙ after_cond c (settled (answer_to es l)) (fits_cells r.cells k) r.target _ _ (chain_answer c es k l rs even.1)

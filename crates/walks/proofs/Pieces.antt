@@ -1,10 +1,10 @@
 -- The pieces of a node's rows decide as the rows do.
+use Rattle.std.specs.Option.{option_or}
 use Rattle.std.proofs.Common.{◌≡◌, ℕ, zero, suc, ◌+◌, ◌-◌, ◌*◌, ◌/◌, ◌^◌, ◌<◌, ◌≤◌, Bool, true, false, cond, ◌&&◌, ◌||◌, T, eqb, leb, List, [], ◌∷◌, map, length, get_or, Some, None, Option, sym, refl, ap, ◌∙◌, arith, pow_pos}
 use lib.Bits.{bit_and, and_le_r}
-use Rattle.std.specs.List.{flat_map, AllByRecursion}
+use Rattle.std.specs.List.{flat_map, AllByRecursion, list_any}
 use Rattle.std.proofs.ByRecursion.{All-append}
 use Rattle.std.proofs.lemmas.Bool.{and_parts, eqb-true, ltb-true, leb-true, cond_both, both_ways}
-use Rattle.refusals.specs.Searching.{or_else}
 use Rattle.patterns.specs.declared.block.Block.{Block}
 use Rattle.patterns.specs.declared.row.Target.{Target}
 use Rattle.patterns.specs.declared.row.Target.TheVariants as to
@@ -12,7 +12,7 @@ use Rattle.patterns.specs.declared.row.TernaryRow.{TernaryRow}
 use Rattle.patterns.specs.declared.row.RangeRow.{RangeRow}
 use Rattle.patterns.specs.Sound.{ternary_ok, span_ok, kept}
 use Rattle.patterns.specs.Sorts.{ternary_of, ternary_fits, span_of, span_fits}
-use Rattle.patterns.specs.Finding.{some, passes, row_fits}
+use Rattle.patterns.specs.Finding.{passes, row_fits}
 use Rattle.patterns.specs.Splitting.{top_block, block_of, block_fits, split_by, split_of}
 use Rattle.patterns.proofs.Blocks.{split_fits}
 use Rattle.graphs.specs.View.{RowsView, ternary_rows, range_rows, row_count, target_of}
@@ -20,7 +20,7 @@ use Rattle.graphs.specs.Deciding.{decide}
 use Rattle.walks.specs.Bytes.{filled, spelled, spelled_in}
 use Rattle.walks.specs.Rows.{free, cells_of, Piece, ternary_piece, block_piece, range_pieces, pieces, tried}
 use Rattle.walks.proofs.Spelling.{Bytes, Small, fits_cells, spelled_lt, length_cells, cells_small, cells_fit, length_filled, filled_whole, bytes_filled, small_filled, filled_fits, cells_front}
-use Rattle.walks.proofs.Fit.{first_fit, fit_append, fit_map, fit_like, fit_same, place_gives}
+use Rattle.walks.proofs.Fit.{first_fit, fit_append, fit_map, fit_like, fit_same, position_gives}
 use Rattle.walks.proofs.Join.{choose, Even}
 use Rattle.walks.proofs.Sound.{SoundTernary, SoundRange, SoundRows}
 
@@ -29,7 +29,7 @@ passes_kept : {P : Type 0} (f : P → Bool) (b : Bool) (mk : T b → P) (x : Boo
 passes_kept f true mk x h e = h tt
 passes_kept f false mk x h e = absurd (both_ways false refl e)
 
-some_like : {X : Type 0} (f h : X → Bool) (xs : List X) → AllByRecursion (λ x. f x ≡ h x) xs → some f xs ≡ some h xs
+some_like : {X : Type 0} (f h : X → Bool) (xs : List X) → AllByRecursion (λ x. f x ≡ h x) xs → list_any f xs ≡ list_any h xs
 some_like f h [] a = refl
 some_like f h (x ∷ xs) a = rw a.0 (ap (λ b. h x || b) (some_like f h xs a.1))
 
@@ -101,7 +101,7 @@ module _ (w a b : ℕ) (ks : List ℕ) (e : length (a ∷ b ∷ ks) ≡ w) (byte
   blocks_fit t (x ∷ xs) s = (block_fits_lem t x s.0, blocks_fit t xs s.1)
 
   range_fits : (r : RangeRow) → SoundRange r
-      → some (λ x. fits_cells (block_piece w r.target x).cells (a ∷ b ∷ ks)) (split_of r.low r.high) ≡ row_fits span_of span_fits (spelled_in 4 (a ∷ b ∷ ks) / 2 ^ 16) r
+      → list_any (λ x. fits_cells (block_piece w r.target x).cells (a ∷ b ∷ ks)) (split_of r.low r.high) ≡ row_fits span_of span_fits (spelled_in 4 (a ∷ b ∷ ks) / 2 ^ 16) r
   range_fits r ok =
       let high : r.high < 2 ^ 16 = ltb-true r.high (2 ^ 16) (and_parts (leb r.low r.high) _ ok).1 in
       let y = a * 256 + b in
@@ -112,7 +112,7 @@ module _ (w a b : ℕ) (ks : List ℕ) (e : length (a ∷ b ∷ ks) ≡ w) (byte
       (leb r.low y && leb y r.high) (λ t. refl) ok)
       ∙ ap (λ x. row_fits span_of span_fits x r) (sym (first_two a b ks bytes.1.1))
 
-first_part : {Y : Type 0} (b c : Bool) (y : Y) (o q : Option Y) → b ≡ c → o ≡ q → or_else (cond b (Some y) None) o ≡ cond c (Some y) q
+first_part : {Y : Type 0} (b c : Bool) (y : Y) (o q : Option Y) → b ≡ c → o ≡ q → option_or (cond b (Some y) None) o ≡ cond c (Some y) q
 first_part true c y o q e f = ap (λ x. cond x (Some y) q) e
 first_part false c y o q e f = f ∙ ap (λ x. cond x (Some y) q) e
 
@@ -123,7 +123,7 @@ ranges_choose w [] e two b (r ∷ rs) a = absurd (omega arith)
 ranges_choose w (x ∷ []) e two b (r ∷ rs) a = absurd (omega arith)
 ranges_choose w (x ∷ y ∷ ks) e two b (r ∷ rs) a =
     fit_append _ _ (range_pieces w r) (flat_map (range_pieces w) rs)
-    ∙ ap (λ o. or_else o (choose (flat_map (range_pieces w) rs) (x ∷ y ∷ ks)))
+    ∙ ap (λ o. option_or o (choose (flat_map (range_pieces w) rs) (x ∷ y ∷ ks)))
     (fit_map _ _ (block_piece w r.target) (split_of r.low r.high) ∙ fit_same (λ z. fits_cells (block_piece w r.target z).cells (x ∷ y ∷ ks)) r.target (split_of r.low r.high))
     ∙ first_part _ _ _ _ _ (range_fits w x y ks e b r a.0) (ranges_choose w (x ∷ y ∷ ks) e two b rs a.1)
 
@@ -148,10 +148,10 @@ no_range = record { low = 0; high = 0; target = to.Node 0 }
 pub pieces_decide : (w : ℕ) (rows : RowsView) → SoundRows w rows → w ≤ 4 → (k : List ℕ) → length k ≡ w → Bytes k → choose (pieces w rows) k ≡ decide rows (spelled_in 4 k)
 pieces_decide w (ternary_rows rs) a l k e b =
     fit_map _ _ (ternary_piece w) rs ∙ fit_like _ _ _ rs (ternaries_fit w rs a k e l b)
-    ∙ sym (place_gives (λ r. row_fits ternary_of ternary_fits (spelled_in 4 k) r) (λ r. r.target) no_ternary rs)
+    ∙ sym (position_gives (λ r. row_fits ternary_of ternary_fits (spelled_in 4 k) r) (λ r. r.target) no_ternary rs)
 pieces_decide w (range_rows rs) a l k e b =
     ranges_choose w k e a.0 b rs a.1
-    ∙ sym (place_gives (λ r. row_fits span_of span_fits (spelled_in 4 k / 2 ^ 16) r) (λ r. r.target) no_range rs)
+    ∙ sym (position_gives (λ r. row_fits span_of span_fits (spelled_in 4 k / 2 ^ 16) r) (λ r. r.target) no_range rs)
 
 -- each piece has as many bytes as the node looks up
 ternaries_even : (w : ℕ) (rs : List TernaryRow) → Even w (map (ternary_piece w) rs)

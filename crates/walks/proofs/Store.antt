@@ -1,9 +1,9 @@
 -- A question fits rows of its own state only: the deciding row of the whole list is that of the state's own rows.
+use Rattle.std.specs.Option.{option_or}
 use Rattle.std.proofs.Common.{◌≡◌, ℕ, zero, suc, ◌+◌, ◌%◌, ◌<◌, ◌≤◌, cond, ◌&&◌, eqb, List, [], ◌∷◌, ◌++◌, map, length, Some, None, Option, sym, refl, ap, ◌∙◌, ap₂, ⊎_elim, arith}
 use lib.Bits.{bit_and}
 use Rattle.std.specs.List.{range_with_len, flat_map, AllByRecursion}
 use Rattle.std.proofs.lemmas.Bool.{eq-eqb, ne_eqb, cases_eq}
-use Rattle.refusals.specs.Searching.{or_else}
 use Rattle.graphs.specs.View.{NodeView}
 use Rattle.stores.specs.declared.question.Question.{Question}
 use Rattle.stores.specs.Fits.{fits}
@@ -18,7 +18,7 @@ use Rattle.walks.proofs.Join.{answer_to}
 abbrev say : Question → List StoreRow → Option Action
 say q rows = first_fit (λ r. fits r.row q) (λ r. r.action) rows
 
-say_append : (q : Question) (xs ys : List StoreRow) → say q (xs ++ ys) ≡ or_else (say q xs) (say q ys)
+say_append : (q : Question) (xs ys : List StoreRow) → say q (xs ++ ys) ≡ option_or (say q xs) (say q ys)
 say_append q xs ys = fit_append _ _ xs ys
 
 say_other : (q : Question) (s : ℕ) → (q.state.number ≡ s % 64 → ⊥) → (es : List Entry) → say q (map (store_row s) es) ≡ None
@@ -36,7 +36,7 @@ module _ (f : ℕ → ℕ) (h : ℕ → List Entry) (q : Question) where
   others_none zero a d = refl
   others_none (suc c) a d =
       say_append q (rows a) (flat_map rows (range_with_len (a + 1) c))
-      ∙ ap (λ o. or_else o (say q (flat_map rows (range_with_len (a + 1) c)))) (say_other q (f a) (d a (omega arith) (omega arith)) (h a))
+      ∙ ap (λ o. option_or o (say q (flat_map rows (range_with_len (a + 1) c)))) (say_other q (f a) (d a (omega arith) (omega arith)) (h a))
       ∙ others_none c (a + 1) (λ j l u. d j (omega arith) (omega arith))
 
   own_only : (n c a : ℕ) → a ≤ n → n < a + c → ((j : ℕ) → j < a + c → q.state.number ≡ f j % 64 → n ≡ j) → say q (flat_map rows (range_with_len a c)) ≡ say q (rows n)
@@ -44,8 +44,8 @@ module _ (f : ℕ → ℕ) (h : ℕ → List Entry) (q : Question) where
   own_only n (suc c) a l u inj =
       say_append q (rows a) (flat_map rows (range_with_len (a + 1) c))
       ∙ ⊎_elim
-      (λ (e : a ≡ n). ap (or_else (say q (rows a))) (others_none c (a + 1) (λ j l' u' same. let z = inj j (omega arith) same in omega arith)) ∙ or_else_none _ ∙ rw e)
-      (λ (d : a ≡ n → ⊥). ap (λ o. or_else o (say q (flat_map rows (range_with_len (a + 1) c)))) (say_other q (f a) (λ same. d (sym (inj a (omega arith) same))) (h a)) ∙ own_only n c (a + 1) (omega arith) (omega arith) (λ j u' same. inj j (omega arith) same))
+      (λ (e : a ≡ n). ap (option_or (say q (rows a))) (others_none c (a + 1) (λ j l' u' same. let z = inj j (omega arith) same in omega arith)) ∙ or_else_none _ ∙ rw e)
+      (λ (d : a ≡ n → ⊥). ap (λ o. option_or o (say q (flat_map rows (range_with_len (a + 1) c)))) (say_other q (f a) (λ same. d (sym (inj a (omega arith) same))) (h a)) ∙ own_only n c (a + 1) (omega arith) (omega arith) (λ j u' same. inj j (omega arith) same))
       (cases_eq a n)
 
 module _ (g : List NodeView) (few : length g ≤ chain_base) (chain : Plan) (n : ℕ) (within : n < length g) (q : Question) where
@@ -58,14 +58,14 @@ module _ (g : List NodeView) (few : length g ≤ chain_base) (chain : Plan) (n :
   say_node : q.state.number ≡ n → say q (store_rows g chain) ≡ say q (node_rows g n)
   say_node s =
       say_append q plainly chainly
-      ∙ ap (or_else (say q plainly)) (others_none (λ i. chain_base + i) (λ i. chain_entries g i (chain i)) q (length g) 0 (λ j l u e. omega arith))
+      ∙ ap (option_or (say q plainly)) (others_none (λ i. chain_base + i) (λ i. chain_entries g i (chain i)) q (length g) 0 (λ j l u e. omega arith))
       ∙ or_else_none _
       ∙ own_only (λ i. i) (λ i. entries g i []) q n (length g) 0 (omega arith) (omega arith) (λ j u e. omega arith)
 
   say_chain : q.state.number ≡ chain_base + n → say q (store_rows g chain) ≡ say q (chain_rows g chain n)
   say_chain s =
       say_append q plainly chainly
-      ∙ ap (λ o. or_else o (say q chainly)) (others_none (λ i. i) (λ i. entries g i []) q (length g) 0 (λ j l u e. omega arith))
+      ∙ ap (λ o. option_or o (say q chainly)) (others_none (λ i. i) (λ i. entries g i []) q (length g) 0 (λ j l u e. omega arith))
       ∙ own_only (λ i. chain_base + i) (λ i. chain_entries g i (chain i)) q n (length g) 0 (omega arith) (omega arith) (λ j u e. omega arith)
 
   pub own_node : q.state.number ≡ n → answer_by (store_rows g chain) q ≡ answer_by (node_rows g n) q

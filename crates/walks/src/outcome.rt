@@ -1,6 +1,6 @@
 // How a walk through a packet ends.
 ghost use Rattle.std.specs.Prelude.{◌≡◌};
-ghost use Rattle.walks.specs.Outcomes.{ending_number, stopped_by, of_outcome};
+ghost use Rattle.walks.specs.Outcomes.{ending_number, of_outcome};
 
 use refusals::refusal::{Layer, Refusal};
 
@@ -19,12 +19,12 @@ pub enum Ending {
     Dropped,
 }
 
-impl Ending {
-    /// The ending's number: 0 for done, 13 to 16 for the others.
-    pub fn number(self) -> u8
-        ensures { result ≡ ending_number self }
-    {
-        match self {
+/// The ending's number: 0 for done, 13 to 16 for the others.
+impl From<Ending> for u8 {
+    ghost from_gives = { λ e r. r ≡ ending_number e };
+
+    fn from(ending: Ending) -> u8 {
+        match ending {
             Ending::Done => 0,
             Ending::Cut => 13,
             Ending::Short => 14,
@@ -50,22 +50,10 @@ impl Outcome {
     {
         match self.ending {
             Ending::Done => None,
-            Ending::Cut => self.stopped(13),
-            Ending::Short => self.stopped(14),
-            Ending::Unfit => self.stopped(15),
-            Ending::Dropped => self.stopped(16),
+            ending => {
+                let node = u16::from(self.node);
+                Some(Refusal::at(u8::from(ending), Layer::Walk, node, self.offset))
+            }
         }
-    }
-
-    // A refusal by a number, at node and offset.
-    fn stopped(&self, number: u8) -> Option<Refusal>
-        ensures { result ≡ stopped_by number self.now }
-    {
-        Some(Refusal {
-            number,
-            layer: Layer::Walk,
-            first: self.node as u16,
-            second: self.offset,
-        })
     }
 }

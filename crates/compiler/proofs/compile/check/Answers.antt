@@ -9,7 +9,7 @@ use Rattle.plans.specs.Chains.{chain_of}
 use Rattle.plans.specs.Faults.{of_plan}
 use Rattle.plans.specs.declared.fault.PlanFault.{PlanFault}
 use Rattle.plans.specs.Refusals.{PlanApplies}
-use Rattle.compiler.specs.declared.compile.Checked.{Checked}
+use Rattle.compiler.specs.declared.checked.Checked.{Checked}
 use Rattle.compiler.specs.declared.fault.LoadFault.{LoadFault}
 use Rattle.compiler.specs.declared.fault.LoadFault.TheVariants.{TooMany}
 use Rattle.compiler.specs.Faults.{of_load}
@@ -24,7 +24,7 @@ returns-in_err-graph c =
     let f = c.args.file.now in
     let p = c.args.plan.now in
     let e = err_from_is_err_and c.from_residual.result c.from_residual.ensures.1 in
-    let told : Result Checked LoadFault → Type 0 = Answers of_load (LoadApplies minimum f p c.args.capacity) (λ x. Loadable minimum f p c.args.capacity x.graph x.chains) in
+    let told : Result Checked LoadFault → Type 0 = Answers of_load (LoadApplies minimum f p c.args.capacity) (λ x. Loadable minimum f p c.args.capacity x) in
     subst told (sym (e.1 ∙ ap Err e.2)) (read_least minimum f p c.args.capacity c.in_err-graph.field-0.0 c.in_err-graph.ensures.answers)
 
 pub returns-in_err-chains : goal.returns-in_err-chains
@@ -35,7 +35,7 @@ returns-in_err-chains c =
     let read = c.in_ok-graph.ensures in
     let nodes = read_is minimum f (graph_view c.in_ok-graph.graph) read.is in
     let e = err_from_is_err_and c.from_residual-in_err-chains.result c.from_residual-in_err-chains.ensures.1 in
-    let told : Result Checked LoadFault → Type 0 = Answers of_load (LoadApplies minimum f p c.args.capacity) (λ x. Loadable minimum f p c.args.capacity x.graph x.chains) in
+    let told : Result Checked LoadFault → Type 0 = Answers of_load (LoadApplies minimum f p c.args.capacity) (λ x. Loadable minimum f p c.args.capacity x) in
     subst told (sym (e.1 ∙ ap Err e.2))
     (plan_least minimum f p c.args.capacity read.answers.0 c.in_err-chains.field-0.0
     (subst (λ g. Least of_plan (PlanApplies g p) c.in_err-chains.field-0.0) nodes c.in_err-chains.ensures.answers))
@@ -49,7 +49,7 @@ returns-in_err-check_room c =
     let nodes = read_is minimum f (graph_view c.in_ok-graph.graph) read.is in
     let plan = c.in_ok-chains.ensures.answers in
     let e = err_from_is_err_and c.from_residual-in_err-check_room.result c.from_residual-in_err-check_room.ensures.1 in
-    let told : Result Checked LoadFault → Type 0 = Answers of_load (LoadApplies minimum f p c.args.capacity) (λ x. Loadable minimum f p c.args.capacity x.graph x.chains) in
+    let told : Result Checked LoadFault → Type 0 = Answers of_load (LoadApplies minimum f p c.args.capacity) (λ x. Loadable minimum f p c.args.capacity x) in
     subst told (sym (e.1 ∙ ap Err e.2))
     (room_least minimum f p c.args.capacity read.answers.0 (subst (λ g. (d : PlanFault) → PlanApplies g p d → ⊥) nodes plan.0) c.row_count.result
     (c.row_count.ensures ∙ ap₂ (λ g chain. min (store_count g chain) 65535) nodes plan.1.same) c.in_err-check_room.field-0.0 c.in_err-check_room.ensures)

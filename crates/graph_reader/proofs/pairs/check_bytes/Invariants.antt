@@ -4,5 +4,5 @@ use Rattle.refusals.specs.Searching.{first_told}
 use Rattle.graph_reader.specs.Files.{record_fault, byte_fault}
 use Rattle.graph_reader.proofs.pairs.check_bytes.Given as goal
 
-abbrev pub invariant-loop-n : goal.invariant-loop-n
-invariant-loop-n l = first_told (record_fault l.file) l.n (at l.file 0 - l.n) ≡ byte_fault l.file
+abbrev pub invariant-loop-node : goal.invariant-loop-node
+invariant-loop-node l = first_told (record_fault l.file) l.node (at l.file 0 - l.node) ≡ byte_fault l.file

@@ -1,15 +1,18 @@
-use Rattle.std.proofs.Common.{arith, rules}
+use Rattle.std.specs.Option.{option_map}
+use Rattle.std.proofs.Common.{◌≡◌, true, false, ◌∙◌, arith, rules, tests}
+use Rattle.std.proofs.lemmas.Iterator.{first_from_Range}
+use Rattle.refusals.specs.Searching.{fault_of}
 use Rattle.graph_reader.specs.declared.fault.FileFault.TheVariants.{Pair}
-use Rattle.refusals.specs.Searching.{unless}
+use Rattle.graph_reader.specs.Records.{at}
 use Rattle.graph_reader.specs.Files.{pair_right}
-use Rattle.refusals.proofs.Searching.{found, passed, ended}
+use Rattle.graphs.proofs.Finding.{First, told_first}
 use Rattle.graph_reader.proofs.pairs.check_pairs.Goals as goal
 
-pub returns-then-not-pair_right : goal.returns-then-not-pair_right
-returns-then-not-pair_right c = found (λ i. unless (pair_right c.args.file.now i) (Pair i)) _ _ c.loop-i.invariant _ (omega arith) (search rules)
-
-pub loop-i-preserved : goal.loop-i-preserved
-loop-i-preserved c = search (rules, passed)
-
 pub returns : goal.returns
-returns c = search (rules, ended)
+returns c =
+    let f = c.args.file.now in
+    let first : First (pair_right f) Pair (at f 0) c.find.result =
+    first_from_Range _ _ _ _ (λ i. pair_right f i ≡ false) (λ i. pair_right f i ≡ true) c.find.ensures.ran
+    (λ x q k. grind (arith, tests)) (λ x q k. (search rules, grind (arith, tests))) in
+    let same : fault_of c.map_or.result ≡ option_map Pair c.find.result = search rules in
+    same ∙ told_first (pair_right f) Pair (at f 0) c.find.result first

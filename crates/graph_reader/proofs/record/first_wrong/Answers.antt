@@ -1,12 +1,13 @@
-use Rattle.std.proofs.Common.{arith, rules}
+use Rattle.std.proofs.Common.{◌≡◌, true, false, length, sym, ◌∙◌, arith, rules, tests}
+use Rattle.std.proofs.lemmas.Iterator.{first_from_Range}
 use Rattle.graph_reader.specs.Records.{right}
-use Rattle.refusals.specs.Searching.{unless}
-use Rattle.refusals.proofs.Searching.{found, passed}
+use Rattle.graphs.proofs.Finding.{First, told_first, wrapped_same}
 use Rattle.graph_reader.proofs.record.first_wrong.Goals as goal
 
-pub returns-then-not-byte_right : goal.returns-then-not-byte_right
-returns-then-not-byte_right c =
-    record { is = found (λ b. unless (right c.args.bytes.now b) b) _ _ c.loop-i.invariant _ (omega arith) (search rules); within = search rules }
-
-pub loop-i-preserved : goal.loop-i-preserved
-loop-i-preserved c = search (rules, passed)
+pub returns-clause-is : goal.returns-clause-is
+returns-clause-is c =
+    let r = c.args.bytes.now in
+    let first : First (right r) (λ b. b) (length r) c.find.result =
+    first_from_Range _ _ _ _ (λ i. right r i ≡ false) (λ i. right r i ≡ true) c.find.ensures.ran
+    (λ x q k. grind (arith, tests)) (λ x q k. (search rules, grind (arith, tests))) in
+    sym (wrapped_same _) ∙ told_first (right r) (λ b. b) (length r) c.find.result first

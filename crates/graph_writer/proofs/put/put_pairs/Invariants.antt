@@ -7,5 +7,5 @@ use Rattle.graph_writer.proofs.put.put_pairs.Given as goal
 
 abbrev pub invariant-loop-n : goal.invariant-loop-n
 invariant-loop-n l =
-    (l.area ≡ written l.initial.area 2 (pairs_from l.from (map node_view (take l.n l.nodes))))
+    (l.area ≡ written l.initial.area 0 (pairs_from l.from (map node_view (take l.n l.nodes))))
     × (l.next ≡ l.from + sizes (map node_view (take l.n l.nodes))) × (l.next ≤ l.from + 176 * l.n)

@@ -11,5 +11,5 @@ returns c =
     let k = top_block c.args.low c.args.high in
     let e : c.size.result ≡ 2 ^ k = c.size.ensures ∙ ap (λ x. 2 ^ x) c.top_block.ensures in
     let p : 0 < 2 ^ k = pow_pos k in
-    let t = (top_is c.args.low c.args.high c.requires.0 c.requires.1).inside in
+    let t = (top_is c.args.low c.args.high c.requires (omega arith)).inside in
     record { is = e; some = omega arith; within = omega arith }

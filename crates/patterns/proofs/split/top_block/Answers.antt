@@ -1,16 +1,12 @@
-use Rattle.std.proofs.Common.{sym, refl, ◌∙◌, arith}
-use Rattle.patterns.specs.Splitting.{top_block}
-use Rattle.patterns.proofs.Largest.{largest_down, largest_here}
+use Rattle.std.proofs.Common.{◌≡◌, ◌-◌, ap, ◌∙◌, rules, tests}
+use Rattle.patterns.specs.Splitting.{largest, top_block}
+use Rattle.patterns.proofs.Falling.{largest_by}
 use Rattle.patterns.proofs.split.top_block.Goals as goal
 
-pub loop-k-init : goal.loop-k-init
+pub returns : goal.returns
 unfolding top_block
-loop-k-init c = (omega arith, refl)
-
-pub loop-k-preserved : goal.loop-k-preserved
-loop-k-preserved c =
-    (omega arith, sym (largest_down _ _ _ c.loop-k-test.true (sym c.if-not-block_ok.ensures)) ∙ c.loop-k.invariant.1)
-
-pub returns-else-not-block_ok : goal.returns-else-not-block_ok
-returns-else-not-block_ok c =
-    sym (largest_here c.args.low c.args.high _ c.loop-k-test.true (sym c.if-not-block_ok.ensures)) ∙ c.loop-k.invariant.1
+returns c =
+    let (xs, j, then, folds, last) = c.find.ensures.ran in
+    c.unwrap_or.ensures
+    ∙ largest_by c.args.low c.args.high _ (λ x b q k. search (rules, tests)) xs c.rev.result _ c.find.result j (search rules) then folds last
+    ∙ (let top : c.rev.result.iter.end ≡ 17 = search rules in ap (λ e. largest c.args.low c.args.high (e - 1)) top)

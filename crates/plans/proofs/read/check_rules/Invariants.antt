@@ -1,4 +1,4 @@
-use Rattle.std.proofs.Common.{◌≡◌, ◌-◌}
+use Rattle.std.proofs.Common.{◌≡◌, ◌-◌, length}
 use Rattle.refusals.specs.Searching.{first_told, unless}
 use Rattle.graphs.specs.View.{graph_view}
 use Rattle.plans.specs.declared.fault.PlanFault.TheVariants.{Rule}
@@ -6,7 +6,9 @@ use Rattle.plans.specs.Chains.{chain_of}
 use Rattle.plans.specs.Checking.{keeps, rules_fault}
 use Rattle.plans.proofs.read.check_rules.Given as goal
 
--- what the nodes from n on tell is what all of them tell
-abbrev pub invariant-loop-n : goal.invariant-loop-n
-invariant-loop-n l =
-    first_told (λ n. unless (keeps (graph_view l.graph) n (chain_of l.chains n)) (Rule n)) l.n (l.count - l.n) ≡ rules_fault (graph_view l.graph) (chain_of l.chains) l.count
+-- what the nodes from here on tell is what all of them tell
+abbrev pub invariant-loop-node : goal.invariant-loop-node
+invariant-loop-node l =
+    let g = graph_view l.graph in
+    let chain = chain_of l.chains in
+    first_told (λ n. unless (keeps g n (chain n)) (Rule n)) l.node (length g - l.node) ≡ rules_fault g chain (length g)

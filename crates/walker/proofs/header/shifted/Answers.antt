@@ -1,6 +1,6 @@
-use Rattle.std.proofs.Common.{sym, arith}
-use Rattle.walker.proofs.Heading.{shifted_out}
+use Rattle.std.proofs.Common.{◌∙◌, arith}
+use Rattle.walker.proofs.Heading.{shifted_or_out}
 use Rattle.walker.proofs.header.shifted.Goals as goal
 
-pub returns-else-shift-lt8 : goal.returns-else-shift-lt8
-returns-else-shift-lt8 c = sym (shifted_out c.args.byte c.args.shift (omega arith) c.if-shift-lt8.false)
+pub returns : goal.returns
+returns c = c.unwrap_or.ensures ∙ shifted_or_out c.args.byte c.args.shift c.checked_shr.result (omega arith) c.checked_shr.ensures

@@ -16,8 +16,8 @@ returns-in_err-first_fault c =
       kept = rw p.1 refl;
     }
 
-pub walk_on-requires : goal.walk_on-requires
-walk_on-requires c =
+pub walk-requires : goal.walk-requires
+walk-requires c =
     let clear = c.in_ok-first_fault.ensures in
     let minimum = minimum_in c.args.table.now in
     let g = graph_view c.args.graph.now in
@@ -30,7 +30,7 @@ returns c =
     record {
       answers = (
         none_applies (minimum_in c.args.table.now) (graph_view c.args.graph.now) (length c.args.packet.now) (length c.args.marks.now) c.in_ok-first_fault.ensures,
-        c.walk_on.ensures,
+        c.walk.ensures,
       );
       kept = tt;
     }

@@ -1,0 +1,25 @@
+// What is wrong with a capture, in words.
+use crate::fault::CaptureFault;
+use std::fmt;
+
+impl fmt::Display for CaptureFault {
+    fn fmt<W: fmt::Write>(&self, f: &mut fmt::Formatter<W>) -> fmt::Result {
+        match self {
+            CaptureFault::NotCapture => write!(f, "the header of the capture is cut"),
+            CaptureFault::NotEthernet { link } => {
+                write!(f, "the capture's link type is {link}, and not 1, Ethernet")
+            }
+            CaptureFault::HeaderCut { offset } => {
+                write!(f, "the capture is cut inside the record at {offset}")
+            }
+            CaptureFault::PacketCut {
+                offset,
+                captured,
+                there,
+            } => write!(
+                f,
+                "the capture is cut inside the record at {offset}: {there} of {captured} bytes are there"
+            ),
+        }
+    }
+}

@@ -1,0 +1,56 @@
+// The node of a number, and the places that it looks up.
+ghost use Rattle.std.specs.Prelude.{◌≡◌, ◌≤◌, [], length};
+ghost use Rattle.graphs.specs.View.{node_view, graph_view, node_at};
+
+use crate::graph::{Graph, Length, Node, PLACES, ROWS, Rows};
+use crate::named::named;
+use headers::kinds::Kind;
+use patterns::row::{Target, TernaryRow};
+
+impl Graph {
+    /// How many nodes the graph's count names.
+    pub fn size(&self) -> u8
+        ensures is { result ≡ length (graph_view self.now) }
+        ensures few { result ≤ 32 }
+    {
+        self.named_nodes().len() as u8
+    }
+
+    /// The node of a number; the blank node past the nodes that the graph's count names, which are
+    /// at most 32.
+    pub fn node(&self, number: u8) -> Node
+        ensures is { node_view result ≡ node_at (graph_view self.now) number }
+        ensures few { length (graph_view self.now) ≤ 32 }
+    {
+        let nodes = self.named_nodes();
+        nodes.get(number as usize).copied().unwrap_or(Node::blank())
+    }
+}
+
+impl Node {
+    /// The blank node: of a fixed length 0, it looks up nothing and has no rows.
+    pub fn blank() -> Node
+        ensures { node_view result ≡ node_at [] 0 }
+    {
+        Node {
+            kind: Kind::Ethernet,
+            length: Length::Fixed(0),
+            place_count: 0,
+            places: [0; PLACES],
+            row_count: 0,
+            rows: Rows::Ternary([TernaryRow {
+                value: 0,
+                mask: 0,
+                target: Target::Done,
+            }; ROWS]),
+        }
+    }
+
+    /// The lookup places that the node's count names.
+    pub fn lookup(&self) -> &[u8]
+        ensures is { result.now ≡ (node_view self.now).places }
+        ensures few { length result.now ≤ 4 }
+    {
+        named(&self.places, self.place_count)
+    }
+}

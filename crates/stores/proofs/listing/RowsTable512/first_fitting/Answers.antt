@@ -1,0 +1,9 @@
+use Rattle.std.proofs.Common.{◌≡◌, take, ◌∙◌, rules}
+use Rattle.stores.specs.Answering.{answer_position}
+use Rattle.stores.proofs.listing.RowsTable512.first_fitting.Goals as goal
+
+-- a place below 512 stays what it is in 16 bits
+pub returns : goal.returns
+returns c =
+    let told : c.map.result ≡ c.first_place.result = search rules in
+    told ∙ c.first_place.ensures ∙ answer_position c.args.question.now (take c.args.held c.args.self.now.rows)
