@@ -1,7 +1,7 @@
 // Two graph files, byte by byte.
 ghost use Rattle.std.specs.Prelude.{◌≡◌};
 ghost use Rattle.graph_reader.specs.Encoding.{encode};
-ghost use Rattle.examples.specs.Samples.{four_nodes};
+ghost use Rattle.walks.specs.Samples.{four_nodes};
 
 /// The file of the four-node sample: the encoding of its graph.
 pub fn four_nodes() -> [u8; 162]
