@@ -6,15 +6,13 @@ ghost use Rattle.compiler.specs.Sinks.{sink_of, Room, Filled, line_of};
 ghost use Rattle.compiler.specs.Filled.{all_rows, rows_alone, rows_chained};
 
 use crate::checked::Checked;
+use crate::program::CHAIN_BASE;
 use crate::sink::Sink;
 use crate::start::Start;
 use graphs::graph::Graph;
 use stores::fault::StoreFault;
 use stores::state::State;
 use stores::store::Store;
-
-// The states of nodes with their chains begin here.
-const CHAIN_BASE: u8 = 32;
 
 impl<S: Store> Sink<'_, S> {
     // Puts the rows of graph and plan into the store, in order, and their actions beside them: first

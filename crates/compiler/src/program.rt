@@ -16,6 +16,9 @@ use walks::action::Action;
 /// The most rows of a graph and a plan.
 pub const ROWS: usize = 512;
 
+/// The states whose rows are over a node and its chain begin here, with that of node 0.
+pub const CHAIN_BASE: u8 = 32;
+
 /// A node without its rows: its kind, length rule and lookup places, its chain, and the bytes that
 /// node and chain take from a packet.
 #[derive(Clone, Copy)]

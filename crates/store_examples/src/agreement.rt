@@ -1,4 +1,5 @@
 // Every store answers the same questions alike.
+use crate::piles::fresh_pile;
 use crate::rows::{question, row, row_of};
 use slices::sliced::Sliced;
 use std::process::Abort;
@@ -48,11 +49,7 @@ fn answers_the_table<S: Store>(rt: &impl Abort, store: &mut S, before: u16) -> R
 fn every_store_answers_the_table(rt: HostRuntime) -> Result<(), Fail> {
     answers_the_table(&rt, &mut Listing::new(), 0)?;
     answers_the_table(&rt, &mut Sliced::new(), 0)?;
-    answers_the_table(
-        &rt,
-        &mut Pair::new(Sliced::new(), Pair::new(Listing::new(), Sliced::new())),
-        0,
-    )
+    answers_the_table(&rt, &mut fresh_pile(), 0)
 }
 
 #[test]

@@ -1,4 +1,5 @@
 // What stores hold and take, up to the last row.
+use crate::piles::fresh_pile;
 use crate::rows::{question_of, row_of};
 use refusals::refusal::{Layer, Refusal};
 use slices::sliced::Sliced;
@@ -38,11 +39,7 @@ fn the_513th_row_is_refused_by_a_listing(rt: HostRuntime) -> Result<(), Fail> {
 
 #[test]
 fn a_pile_of_three_takes_what_all_three_take(rt: HostRuntime) -> Result<(), Fail> {
-    fills_to_the_brim(
-        &rt,
-        &mut Pair::new(Sliced::new(), Pair::new(Listing::new(), Sliced::new())),
-        640,
-    )
+    fills_to_the_brim(&rt, &mut fresh_pile(), 640)
 }
 
 #[test]

@@ -17,7 +17,7 @@ use stores::store::Store;
 type Pile = Pair<Sliced, Pair<Listing, Sliced>>;
 
 // A pile of three fresh stores is itself as fresh as a store of 640 rows.
-fn fresh_pile() -> Pile
+pub(crate) fn fresh_pile() -> Pile
     ensures { piled result ≡ fresh 640 }
 {
     Pair::new(Sliced::new(), Pair::new(Listing::new(), Sliced::new()))

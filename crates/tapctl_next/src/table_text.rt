@@ -1,7 +1,7 @@
 // The rows of a graph and a plan as a person reads them.
 use compiler::compile::compile;
 use compiler::fault::LoadFault;
-use compiler::program::{Head, Program};
+use compiler::program::{CHAIN_BASE, Head, Program};
 use console::failure::Failure;
 use console::graph_text::TargetText;
 use console::hex::Hex;
@@ -108,12 +108,9 @@ fn places_of(program: &Program, node: u8) -> usize {
     head_of(program, node).map_or(0, |head| head.places.as_slice().len())
 }
 
-/// The first state whose rows are over a node and its chain: that of node 0.
-const FIRST_CHAINED: u8 = 32;
-
 // The node of a state, and from the first chained state on the head that has its chain.
 fn node_and_head(program: &Program, state: u8) -> (u8, Option<Head>) {
-    match state.checked_sub(FIRST_CHAINED) {
+    match state.checked_sub(CHAIN_BASE) {
         Some(node) => (node, head_of(program, node)),
         None => (state, None),
     }
