@@ -1,11 +1,13 @@
 -- From each offset a file has one capture: what stands at the offset is what its first record is, or how it ends.
-use Rattle.std.proofs.Common.{◌≡◌, ℕ, ◌+◌, ◌-◌, ◌≤◌, Bool, true, false, cond, eqb, leb, List, [], ◌∷◌, ◌++◌, length, Some, None, Ok, Err, Option, Result, sym, refl, ap, ◌∙◌, subst, append_assoc, append-nil, arith, length-append}
+use Rattle.std.proofs.Common.{◌≡◌, ℕ, ◌+◌, ◌-◌, ◌<◌, ◌≤◌, Bool, true, false, cond, eqb, leb, List, [], ◌∷◌, ◌++◌, length, Some, None, Ok, Err, Option, Result, sym, refl, ap, ◌∙◌, subst, append_assoc, append-nil, arith, length-append}
 use Rattle.std.proofs.lemmas.Bool.{eq-eqb, ne_eqb, le-leb, lt-leb, leb-true, leb-false, eqb-true, eqb-false}
 use Rattle.captures.specs.declared.fault.CaptureFault.{CaptureFault}
 use Rattle.captures.specs.declared.fault.CaptureFault.TheVariants.{HeaderCut, PacketCut}
 use Rattle.captures.specs.declared.format.Format.{Format}
 use Rattle.captures.specs.declared.records.Entry.{Entry}
-use Rattle.captures.specs.Records.{captured, entry_of, record_at}
+use Rattle.captures.specs.declared.records.Record.{Record}
+use Rattle.captures.specs.declared.records.Records.{Records}
+use Rattle.captures.specs.Records.{captured, entry_of, record_at, GivesFrom, GivesNext}
 use Rattle.captures.specs.Captures.{IsRecord, Capture, whole, header_cut, packet_cut, more, Surveyed}
 
 -- what stands at the offset of a capture: its first record, or how it ends
@@ -117,3 +119,51 @@ module _ (m : Format) (f : List ℕ) where
   surveyed from count o end r c =
       let all : Capture m f from r.passed end = subst (λ (es : List Entry). Capture m f from es end) (append-nil r.passed) (r.then [] end c) in
       record { entries = r.passed; capture = all; only = λ es x d. once es r.passed x end d all; counted = r.counted }
+
+  -- So many records lead from an offset to the one where an iterator over the file stands, and each has a byte at least
+  pub record Counted (from count : ℕ) (s : Records) : Type 0 where
+    pub offset : ℕ
+    pub stands : s.offset ≡ Some offset
+    pub format : s.format ≡ m
+    pub file : s.file.now ≡ f
+    pub grown : count + from ≤ offset
+    pub reached : Reached from count offset
+
+  -- what a call of `next` gives there
+  gives_there : (from count : ℕ) (s t : Records) (r : Option (Result Record CaptureFault)) (k : Counted from count s)
+      → GivesNext s r t → GivesFrom s.format s.file (Some k.offset) r t
+  gives_there from count s t r k g = subst (λ (o : Option ℕ). GivesFrom s.format s.file o r t) k.stands g
+
+  -- a record more
+  pub counted_more : (from count n : ℕ) (s t : Records) (r : Record) → Counted from count s → GivesNext s (Some (Ok r)) t
+      → n ≡ count + 1 → Counted from n t
+  counted_more from count n s t r k g one =
+      let d = gives_there from count s t (Some (Ok r)) k g in
+      let says : record_at s.format s.file.now k.offset ≡ Ok (Some r.entry) = d.0.says in
+      let e : record_at m f k.offset ≡ Ok (Some r.entry) = rw (sym k.format, sym k.file) says in
+      let grows : k.offset < r.entry.next = d.0.onward.grows in
+      record {
+        offset = r.entry.next;
+        stands = ap (λ (u : Records). u.offset) d.1;
+        format = ap (λ (u : Records). u.format) d.1 ∙ k.format;
+        file = ap (λ (u : Records). u.file.now) d.1 ∙ k.file;
+        grown = omega (arith, k.grown);
+        reached = reached_more from count k.offset r.entry n k.reached e one;
+      }
+
+  -- and no more
+  pub counted_all : (from count : ℕ) (s t : Records) → Counted from count s → GivesNext s None t
+      → Surveyed m f from (record { records = count; fault = None })
+  counted_all from count s t k g =
+      let d = gives_there from count s t None k g in
+      let says : record_at s.format s.file.now k.offset ≡ Ok None = d.0 in
+      let e : record_at m f k.offset ≡ Ok None = rw (sym k.format, sym k.file) says in
+      surveyed from count k.offset None k.reached (none_ends k.offset e)
+
+  pub counted_fault : (from count : ℕ) (s t : Records) (x : CaptureFault) → Counted from count s → GivesNext s (Some (Err x)) t
+      → Surveyed m f from (record { records = count; fault = Some x })
+  counted_fault from count s t x k g =
+      let d = gives_there from count s t (Some (Err x)) k g in
+      let says : record_at s.format s.file.now k.offset ≡ Err x = d.0 in
+      let e : record_at m f k.offset ≡ Err x = rw (sym k.format, sym k.file) says in
+      surveyed from count k.offset (Some x) k.reached (fault_ends k.offset x e)

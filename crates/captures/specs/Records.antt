@@ -7,12 +7,14 @@
 -- The next record begins where the packet ends.
 use Rattle.std.specs.Prelude.{◌≡◌, ℕ, ◌+◌, ◌-◌, ◌<◌, ◌≤◌, cond, List, length, Some, None, Ok, Err, Option, Result, ◌==◌, nat_le}
 use Rattle.std.specs.Borrow.{Bor}
+use Rattle.std.specs.Iterator.{Count, at_most}
 use Rattle.headers.specs.Part.{Part}
 use Rattle.captures.specs.declared.fault.CaptureFault.{CaptureFault}
 use Rattle.captures.specs.declared.fault.CaptureFault.TheVariants.{HeaderCut, PacketCut}
 use Rattle.captures.specs.declared.format.Format.{Format}
 use Rattle.captures.specs.declared.records.Entry.{Entry}
 use Rattle.captures.specs.declared.records.Record.{Record}
+use Rattle.captures.specs.declared.records.Records.{Records}
 use Rattle.captures.specs.Numbers.{number_at}
 
 -- the captured length of the record at an offset
@@ -62,3 +64,26 @@ abbrev pub Gives : Format → Bor (List ℕ) → ℕ → Result (Option Record) 
 Gives m file o (Ok None) = record_at m file.now o ≡ Ok None
 Gives m file o (Ok (Some r)) = Handed m file o r
 Gives m file o (Err e) = record_at m file.now o ≡ Err e
+
+-- the iterator over the records of a file, where the next begins at an offset, or where no more come
+abbrev pub records_at : Format → Bor (List ℕ) → Option ℕ → Records
+records_at m file o = record { file = file; format = m; offset = o }
+
+-- What a call of the iterator's `next` gives, and where it leaves the iterator: the record at the offset, and then the next
+-- begins behind it; nothing at the file's end; a fault, and then no more
+abbrev pub GivesFrom : Format → Bor (List ℕ) → Option ℕ → Option (Result Record CaptureFault) → Records → Type 0
+GivesFrom m file None r t = (r ≡ None) × (t ≡ records_at m file None)
+GivesFrom m file (Some o) None t = (record_at m file.now o ≡ Ok None) × (t ≡ records_at m file (Some o))
+GivesFrom m file (Some o) (Some (Ok r)) t = Handed m file o r × (t ≡ records_at m file (Some r.entry.next))
+GivesFrom m file (Some o) (Some (Err e)) t = (record_at m file.now o ≡ Err e) × (t ≡ records_at m file None)
+
+abbrev pub GivesNext : Records → Option (Result Record CaptureFault) → Records → Type 0
+GivesNext s r t = GivesFrom s.format s.file s.offset r t
+
+-- no more items come than bytes are left, and one: a record has a byte at least, and a fault may come behind the last
+abbrev pub left_at : ℕ → Option ℕ → ℕ
+left_at size None = 0
+left_at size (Some o) = size - o + 1
+
+abbrev pub records_left : Records → Count
+records_left s = at_most (left_at (length s.file.now) s.offset)

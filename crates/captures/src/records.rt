@@ -1,6 +1,6 @@
 // The records of a capture file.
-ghost use Rattle.std.specs.Prelude.{◌≡◌, length};
-ghost use Rattle.captures.specs.Records.{record_at, Steps, Gives};
+ghost use Rattle.std.specs.Prelude.{◌≡◌, length, Some};
+ghost use Rattle.captures.specs.Records.{record_at, records_at, Steps, Gives, GivesNext, records_left};
 
 use crate::bytes::number_at;
 use crate::fault::CaptureFault;
@@ -24,6 +24,51 @@ pub struct Entry {
 pub struct Record<'a> {
     pub entry: Entry,
     pub packet: &'a [u8],
+}
+
+/// The records of a file one after the other, up to its end: each as `next` gives it. Where one is cut its fault comes,
+/// once, and then no more.
+#[derive(Clone, Drop)]
+pub struct Records<'a> {
+    file: &'a [u8],
+    format: Format,
+    // Where the next record begins; `None` behind a fault.
+    offset: Option<usize>,
+}
+
+impl<'a> Records<'a> {
+    /// The records from an offset on.
+    pub fn new(file: &'a [u8], format: Format, from: usize) -> Records<'a>
+        ensures { result ≡ records_at format file.entry (Some from) }
+    {
+        Records {
+            file,
+            format,
+            offset: Some(from),
+        }
+    }
+}
+
+impl<'a> Iterator for Records<'a> {
+    type Item = Result<Record<'a>, CaptureFault>;
+
+    ghost next_gives = { GivesNext };
+
+    ghost remaining = { records_left };
+
+    fn next(&mut self) -> Option<Result<Record<'a>, CaptureFault>> {
+        match next(self.file, self.format, self.offset?) {
+            Ok(Some(record)) => {
+                self.offset = Some(record.entry.next);
+                Some(Ok(record))
+            }
+            Ok(None) => None,
+            Err(fault) => {
+                self.offset = None;
+                Some(Err(fault))
+            }
+        }
+    }
 }
 
 /// The record that begins at the offset; `Ok(None)` at the file's end.

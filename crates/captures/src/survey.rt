@@ -3,7 +3,7 @@ ghost use Rattle.captures.specs.Captures.{Surveyed};
 
 use crate::fault::CaptureFault;
 use crate::format::Format;
-use crate::records::entry_at;
+use crate::records::Records;
 
 /// How many whole records there are, and the fault that ends them, if they do not end with the file.
 #[derive(Clone, Copy, PartialEq, Eq, Debug)]
@@ -16,18 +16,18 @@ pub struct Survey {
 pub fn count_records(file: &[u8], format: Format, from: usize) -> Survey
     ensures { Surveyed format file.now from result }
 {
-    // A count beside the loop: where a record begins is known only from the one before, so that there is no list to count.
     let mut records = 0;
-    let mut offset = from;
-    let fault = loop {
-        match entry_at(file, format, offset) {
-            Ok(Some(entry)) => {
-                records += 1;
-                offset = entry.next;
-            }
-            Ok(None) => break None,
-            Err(fault) => break Some(fault),
+    for record in Records::new(file, format, from) {
+        if let Err(fault) = record {
+            return Survey {
+                records,
+                fault: Some(fault),
+            };
         }
-    };
-    Survey { records, fault }
+        records += 1;
+    }
+    Survey {
+        records,
+        fault: None,
+    }
 }

@@ -1,13 +1,14 @@
 -- The cells of a piece, and the bytes that stand for them.
-use Rattle.std.proofs.Common.{length, ◌≡◌, ℕ, zero, suc, ◌*◌, ◌/◌, ◌%◌, ◌≤◌, List, [], ◌∷◌, ◌++◌, map, take, drop, sym, refl, ap, ◌∙◌, ap₂, arith}
-use Rattle.std.specs.List.{flat_map}
+use Rattle.std.proofs.Common.{length, ◌≡◌, ℕ, zero, suc, ◌*◌, ◌/◌, ◌%◌, ◌^◌, ◌<◌, ◌≤◌, List, [], ◌∷◌, ◌++◌, map, get_or, take, drop, sym, refl, ap, ◌∙◌, ap₂, arith}
+use Rattle.std.specs.Int.{w32, to_be_bytes}
+use Rattle.std.specs.List.{range_with_len, flat_map}
 use Rattle.std.proofs.lemmas.List.{drop_all, map-append}
 use Rattle.patterns.specs.declared.block.Block.{Block}
 use Rattle.patterns.specs.declared.row.Target.{Target}
+use Rattle.patterns.specs.declared.row.TernaryRow.{TernaryRow}
 use Rattle.patterns.specs.declared.row.RangeRow.{RangeRow}
 use Rattle.patterns.specs.Splitting.{split_of}
 use Rattle.graphs.specs.View.{RowsView, ternary_rows, range_rows}
-use Rattle.graph_reader.specs.Encoding.{four}
 use Rattle.walks.specs.Bytes.{filled}
 use Rattle.walks.specs.Rows as rows
 use Rattle.walks.specs.Rows.{Cell, free, cells_of, ternary_piece, block_piece, range_pieces, pieces}
@@ -15,19 +16,19 @@ use Rattle.compiler.specs.declared.cursor.Cursor.{Cursor}
 use Rattle.compiler.specs.Held.{held}
 use Rattle.compiler.specs.Pieces.{piece_at, block_as, range_as, left}
 
--- four cells: the four bytes of value and mask
+-- the bytes of value and mask, the topmost first
 abbrev cell : ℕ → ℕ → Cell
 cell v m = record { value = v; mask = m }
 
-cells_four : (v m : ℕ)
-    → cells_of 4 v m ≡ cell (v / 16777216) (m / 16777216) ∷ cell (v / 65536 % 256) (m / 65536 % 256) ∷ cell (v / 256 % 256) (m / 256 % 256) ∷ cell (v % 256) (m % 256) ∷ []
+pub bytes_cells : (v m : ℕ) → v < 2 ^ 32 → m < 2 ^ 32 → map (λ i. cell (get_or (to_be_bytes w32 v) i 0) (get_or (to_be_bytes w32 m) i 0)) (range_with_len 0 4) ≡ cells_of 4 v m
 unfolding cells_of
-cells_four v m =
-    let a : (x : ℕ) → x % 16777216 / 65536 ≡ x / 65536 % 256 = λ x. omega arith in
-    let b : (x : ℕ) → x % 16777216 % 65536 / 256 ≡ x / 256 % 256 = λ x. omega arith in
-    let d : (x : ℕ) → x % 16777216 % 65536 % 256 / 1 ≡ x % 256 = λ x. omega arith in
-    ap₂ (λ x y. cell (v / 16777216) (m / 16777216) ∷ x ∷ y) (ap₂ cell (a v) (a m))
-    (ap₂ (λ x y. x ∷ y ∷ []) (ap₂ cell (b v) (b m)) (ap₂ cell (d v) (d m)))
+bytes_cells v m lv lm =
+    let a : (x : ℕ) → x < 2 ^ 32 → x / 16777216 % 256 ≡ x / 16777216 = λ x h. omega arith in
+    let b : (x : ℕ) → x / 65536 % 256 ≡ x % 16777216 / 65536 = λ x. omega arith in
+    let d : (x : ℕ) → x / 256 % 256 ≡ x % 16777216 % 65536 / 256 = λ x. omega arith in
+    let e : (x : ℕ) → x % 256 ≡ x % 16777216 % 65536 % 256 / 1 = λ x. omega arith in
+    ap₂ (λ x y. x ∷ y) (ap₂ cell (a v lv) (a m lm))
+    (ap₂ (λ x y. x ∷ y) (ap₂ cell (b v) (b m)) (ap₂ (λ x y. x ∷ y ∷ []) (ap₂ cell (d v) (d m)) (ap₂ cell (e v) (e m))))
 
 -- a block stands in the first two bytes, and the others are free
 cells_block : (v m : ℕ) → cells_of 4 (v * 65536) (m * 65536) ≡ cells_of 2 v m ++ (free ∷ free ∷ [])
@@ -51,33 +52,15 @@ pub block_piece_lem : (w : ℕ) (t : Target) (b : Block) → block_piece w t b �
 block_piece_lem w t b =
     ap (λ cs. rows.piece cs t) (sym (ap (filled free w) (cells_block b.value b.mask) ∙ filled_free w (cells_of 2 b.value b.mask)))
 
--- the bytes of a piece's cells
-module _ (v m : ℕ) where
-  pub piece_values : (w : ℕ) → w ≤ 4 → map (λ (c : Cell). c.value) (filled free w (cells_of 4 v m)) ≡ take w (four v)
-  piece_values w h = ap (λ cs. map (λ (c : Cell). c.value) (filled free w cs)) (cells_four v m) ∙ go w h
-    where
-      go : (w : ℕ) → w ≤ 4
-          → map (λ (c : Cell). c.value) (filled free w (cell (v / 16777216) (m / 16777216) ∷ cell (v / 65536 % 256) (m / 65536 % 256) ∷ cell (v / 256 % 256) (m / 256 % 256) ∷ cell (v % 256) (m % 256) ∷ []))
-          ≡ take w (four v)
-      go zero h = refl
-      go (suc zero) h = refl
-      go (suc (suc zero)) h = refl
-      go (suc (suc (suc zero))) h = refl
-      go (suc (suc (suc (suc zero)))) h = refl
-      go (suc (suc (suc (suc (suc w))))) h = absurd (omega arith)
+-- where there are so many cells, none is filled in
+filled_front : (w : ℕ) (xs : List Cell) → w ≤ length xs → take w xs ≡ filled free w xs
+filled_front zero xs h = refl
+filled_front (suc w) [] h = absurd (omega arith)
+filled_front (suc w) (x ∷ xs) h = ap (λ ys. x ∷ ys) (filled_front w xs (omega arith))
 
-  pub piece_masks : (w : ℕ) → w ≤ 4 → map (λ (c : Cell). c.mask) (filled free w (cells_of 4 v m)) ≡ take w (four m)
-  piece_masks w h = ap (λ cs. map (λ (c : Cell). c.mask) (filled free w cs)) (cells_four v m) ∙ go w h
-    where
-      go : (w : ℕ) → w ≤ 4
-          → map (λ (c : Cell). c.mask) (filled free w (cell (v / 16777216) (m / 16777216) ∷ cell (v / 65536 % 256) (m / 65536 % 256) ∷ cell (v / 256 % 256) (m / 256 % 256) ∷ cell (v % 256) (m % 256) ∷ []))
-          ≡ take w (four m)
-      go zero h = refl
-      go (suc zero) h = refl
-      go (suc (suc zero)) h = refl
-      go (suc (suc (suc zero))) h = refl
-      go (suc (suc (suc (suc zero)))) h = refl
-      go (suc (suc (suc (suc (suc w))))) h = absurd (omega arith)
+pub piece_front : (w : ℕ) (q : TernaryRow) → w ≤ 4 → take w (cells_of 4 q.value q.mask) ≡ (piece_at w q).cells
+unfolding cells_of
+piece_front w q h = filled_front w (cells_of 4 q.value q.mask) h
 
 -- the pieces of a node are what a new cursor leaves of its rows
 block_pieces : (w : ℕ) (t : Target) (bs : List Block) → map (block_piece w t) bs ≡ map (piece_at w) (map (block_as t) bs)

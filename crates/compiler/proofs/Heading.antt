@@ -1,21 +1,12 @@
 -- The heads of a program, one after the other.
-use Rattle.std.proofs.Common.{◌≡◌, ℕ, ◌+◌, ◌<◌, ◌≤◌, List, [], ◌∷◌, ◌++◌, length, get_or, sym, ap, ◌∙◌, subst, inl, inr, arith, below_more}
-use Rattle.std.proofs.Math.Seq.{get_or-append_seam}
-use Rattle.std.proofs.lemmas.List.{get_or_append_left, get_or_past}
+use Rattle.std.proofs.Common.{◌≡◌, ℕ, ◌<◌, ◌≤◌, List, [], length, get_or, sym, ap, ◌∙◌, subst, inl, inr, arith}
+use Rattle.std.proofs.lemmas.List.{get_or_past}
 use Rattle.std.proofs.lemmas.Bool.{cases_lt}
 use Rattle.graphs.specs.View.{NodeView}
 use Rattle.walks.specs.Rows.{Plan}
 use Rattle.walks.specs.Plans.{span, window}
 use Rattle.compiler.specs.declared.program.Head.{Head}
 use Rattle.compiler.specs.Programs.{no_head, bare, HeadOf}
-
--- what holds of each item so far at its place, one more
-pub each_push : {X : Type 0} (P : ℕ → X → Type 0) (xs : List X) (i : ℕ) (x d : X) → length xs ≡ i → P i x → ((k : ℕ) → k < i → P k (get_or xs k d))
-    → (k : ℕ) → k < i + 1 → P k (get_or (xs ++ (x ∷ [])) k d)
-each_push P xs i x d e p inv =
-    below_more (λ k. P k (get_or (xs ++ (x ∷ [])) k d)) i
-    (λ k l. subst (P k) (sym (get_or_append_left xs (x ∷ []) d k (omega arith))) (inv k l))
-    (subst (P i) (sym (ap (λ k. get_or (xs ++ (x ∷ [])) k d) (sym e) ∙ get_or-append_seam xs x [] d)) p)
 
 -- heads for each node are heads for every number
 pub all_heads : (g : List NodeView) (chain : Plan) (heads : List Head) → length heads ≡ length g → ((n : ℕ) → length g ≤ n → chain n ≡ [])

@@ -1,39 +1,34 @@
 -- Eight bytes as a number.
-use Rattle.std.proofs.Common.{◌≡◌, ℕ, zero, suc, min, List, [], ◌∷◌, ◌++◌, length, get_or, take, drop, replicate, sym, refl, ap, ◌∙◌, arith}
+use Rattle.std.proofs.Common.{◌≡◌, ℕ, List, [], ◌∷◌, map, get_or, sym, refl, ap, ◌∙◌, arith}
+use denote.Param.Members.{Mut, Called}
+use Rattle.std.proofs.Math.ListN.{get_or-map}
 use Rattle.std.specs.Int.{w64, from_be_bytes}
+use Rattle.std.specs.Array.{IsFromFnResult}
+use Rattle.graph_reader.proofs.Filling.{filled_by}
 use Rattle.walks.specs.Bytes.{filled, spelled, spelled_in}
-
-blanks : {X : Type 0} (z : X) (n : ℕ) → replicate n z ≡ filled z n []
-blanks z zero = refl
-blanks z (suc n) = ap (λ ys. z ∷ ys) (blanks z n)
-
--- the first n items, where there are so many, and z for each that is missing
-pub filled_is : {X : Type 0} (z : X) (n : ℕ) (xs : List X) → take (min (length xs) n) xs ++ drop (min (length xs) n) (replicate n z) ≡ filled z n xs
-filled_is {X} z n [] =
-    let none : List X = [] in
-    let e : min (length none) n ≡ 0 = omega arith in
-    ap (λ k. take k none ++ drop k (replicate n z)) e ∙ blanks z n
-filled_is {X} z zero (x ∷ xs) = let e : min (length (x ∷ xs)) 0 ≡ 0 = omega arith in ap (λ k. take k (x ∷ xs) ++ drop k (replicate 0 z)) e
-filled_is z (suc n) (x ∷ xs) =
-    let e : min (length (x ∷ xs)) (suc n) ≡ suc (min (length xs) n) = omega arith in
-    ap (λ k. take k (x ∷ xs) ++ drop k (replicate (suc n) z)) e ∙ ap (λ ys. x ∷ ys) (filled_is z n xs)
+use Rattle.walks.specs.Rows.{Cell, free}
 
 -- what is filled up to eight, by places
-eight : (z : ℕ) (xs : List ℕ)
-    → filled z 8 xs ≡ get_or xs 0 z ∷ get_or xs 1 z ∷ get_or xs 2 z ∷ get_or xs 3 z ∷ get_or xs 4 z ∷ get_or xs 5 z ∷ get_or xs 6 z ∷ get_or xs 7 z ∷ []
-eight z [] = refl
-eight z (a ∷ []) = refl
-eight z (a ∷ b ∷ []) = refl
-eight z (a ∷ b ∷ c ∷ []) = refl
-eight z (a ∷ b ∷ c ∷ d ∷ []) = refl
-eight z (a ∷ b ∷ c ∷ d ∷ e ∷ []) = refl
-eight z (a ∷ b ∷ c ∷ d ∷ e ∷ f ∷ []) = refl
-eight z (a ∷ b ∷ c ∷ d ∷ e ∷ f ∷ g ∷ []) = refl
-eight z (a ∷ b ∷ c ∷ d ∷ e ∷ f ∷ g ∷ h ∷ xs) = refl
+eight : (xs : List ℕ)
+    → filled 0 8 xs ≡ get_or xs 0 0 ∷ get_or xs 1 0 ∷ get_or xs 2 0 ∷ get_or xs 3 0 ∷ get_or xs 4 0 ∷ get_or xs 5 0 ∷ get_or xs 6 0 ∷ get_or xs 7 0 ∷ []
+eight [] = refl
+eight (a ∷ []) = refl
+eight (a ∷ b ∷ []) = refl
+eight (a ∷ b ∷ c ∷ []) = refl
+eight (a ∷ b ∷ c ∷ d ∷ []) = refl
+eight (a ∷ b ∷ c ∷ d ∷ e ∷ []) = refl
+eight (a ∷ b ∷ c ∷ d ∷ e ∷ f ∷ []) = refl
+eight (a ∷ b ∷ c ∷ d ∷ e ∷ f ∷ g ∷ []) = refl
+eight (a ∷ b ∷ c ∷ d ∷ e ∷ f ∷ g ∷ h ∷ xs) = refl
 
 -- as a number
 eight_spelled : (a b c d e f g h : ℕ) → from_be_bytes w64 (a ∷ b ∷ c ∷ d ∷ e ∷ f ∷ g ∷ h ∷ []) ≡ spelled (a ∷ b ∷ c ∷ d ∷ e ∷ f ∷ g ∷ h ∷ [])
 eight_spelled a b c d e f g h = omega arith
 
-pub filled_spelled : (bs : List ℕ) → from_be_bytes w64 (filled 0 8 bs) ≡ spelled_in 8 bs
-filled_spelled bs = ap (from_be_bytes w64) (eight 0 bs) ∙ eight_spelled _ _ _ _ _ _ _ _ ∙ sym (ap spelled (eight 0 bs))
+-- as `from_fn` makes them of a part of each cell
+pub spelled_by : {F : Type 0} {g : Mut F (ℕ × Unit {0}) ℕ} {f : F} {ys : List ℕ} (part : Cell → ℕ) → part free ≡ 0 → (cs : List Cell) → IsFromFnResult g f ys 8
+    → ((i y : ℕ) (q : F) → Called g f (i, tt) y q → (q ≡ f) × (y ≡ part (get_or cs i free))) → from_be_bytes w64 ys ≡ spelled_in 8 (map part cs)
+spelled_by part none cs made same =
+    let at : (i : ℕ) → part (get_or cs i free) ≡ get_or (map part cs) i 0 = λ i. sym (get_or-map part cs i free) ∙ ap (get_or (map part cs) i) none in
+    ap (from_be_bytes w64) (filled_by (λ i. get_or (map part cs) i 0) 8 made (λ i y q k. ((same i y q k).0, (same i y q k).1 ∙ at i)))
+    ∙ eight_spelled _ _ _ _ _ _ _ _ ∙ sym (ap spelled (eight (map part cs)))

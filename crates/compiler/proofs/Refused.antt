@@ -4,7 +4,7 @@ use Rattle.std.proofs.Common.{◌≡◌, ℕ, ◌*◌, ◌<◌, ◌≤◌, min, 
 use Rattle.std.proofs.lemmas.Bool.{and_cases, and_parts, leb-true, leb-false, eqb-true}
 use Rattle.refusals.specs.Searching.{unless, unless_fault}
 use Rattle.refusals.specs.Least.{rank, NotAfter, Least}
-use Rattle.refusals.proofs.Searching.{unless_none, or_else_none}
+use Rattle.refusals.proofs.Searching.{unless_none, option_or_none}
 use Rattle.headers.specs.declared.kinds.Kind.{Kind}
 use Rattle.graphs.specs.View.{NodeView}
 use Rattle.graph_reader.specs.declared.fault.ReadFault.{ReadFault}
@@ -46,7 +46,7 @@ read_is minimum f g e = go (read_fault minimum f) e
 pub size_is : (g : List NodeView) (p : List ℕ) → None ≡ plan_fault g p → length p ≡ 4 * length g
 size_is g p e =
     eqb-true _ _ (unless_none (eqb (length p) (4 * length g)) (Shape (length g))
-    (or_else_none (size_fault (length g) p) (option_or (chains_fault (length g) p) (rules_fault g (chain_in p) (length g))) (sym e)).0)
+    (option_or_none (size_fault (length g) p) (option_or (chains_fault (length g) p) (rules_fault g (chain_in p) (length g))) (sym e)).0)
 
 -- a cut count is room for the store exactly if the count is
 pub roomy_cut : (count capacity : ℕ) → roomy (min count 65535) capacity ≡ true → (count ≤ 512) × (count ≤ capacity)

@@ -1,5 +1,5 @@
 -- Rows with their actions, put one after the other into a store and a list of actions.
-use Rattle.std.specs.Prelude.{◌≡◌, ℕ, ◌+◌, ◌-◌, ◌*◌, ◌≤◌, Bool, false, ◌&&◌, List, [], ◌∷◌, ◌++◌, map, length, take, Option, ◌==◌, bit_and}
+use Rattle.std.specs.Prelude.{◌≡◌, ℕ, ◌+◌, ◌-◌, ◌*◌, ◌≤◌, Bool, ◌&&◌, List, [], ◌++◌, map, length, Option, ◌==◌, bit_and}
 use Rattle.patterns.specs.declared.row.Target.{Target}
 use Rattle.patterns.specs.declared.row.TernaryRow.{TernaryRow}
 use Rattle.stores.specs.declared.question.Question.{Question}
@@ -7,11 +7,12 @@ use Rattle.stores.specs.Fits.{fits}
 use Rattle.stores.specs.Meaning.{Meaning, holding, wiped}
 use Rattle.walks.specs.declared.action.Action.{Action}
 use Rattle.walks.specs.Bytes.{spelled_in}
-use Rattle.walks.specs.Rows.{key_width, Cell, Entry, StoreRow, action, leads_to}
-use Rattle.graph_reader.specs.Encoding.{four}
+use Rattle.walks.specs.Rows.{key_width, Cell, Entry, StoreRow, action}
+use Rattle.compiler.specs.declared.start.Masked.{Masked}
 use Rattle.compiler.specs.declared.start.Start.{Start}
 use Rattle.compiler.specs.declared.sink.Sink as lent
 use Rattle.compiler.specs.Held.{held}
+use Rattle.compiler.specs.Pieces.{piece_at}
 
 -- a row as the questions that it fits, and its action
 pub record Line : Type 0 where
@@ -59,41 +60,35 @@ Filled meaning a b rs = Becomes meaning a b (sunk (sink_of meaning a) rs)
 
 -- Rows that are begun
 
--- the questions that a row of a state fits whose value and mask are spelled
-abbrev pub fits_by : ℕ → List ℕ → List ℕ → Question → Bool
-fits_by s values masks q = q.state.number == s && bit_and q.key (spelled_in key_width masks) == spelled_in key_width values
+-- the first part of a row as a pattern over lookup bytes: its bytes, each a cell
+abbrev pub cell_of : Masked → Cell
+cell_of b = record { value = b.value; mask = b.mask }
 
--- the first part of a row goes on with these cells and this action
-abbrev pub line_on : Start → List Cell → Action → Line
-line_on p cs a = record {
-  fits = fits_by p.state.number (held p.value ++ map (λ (c : Cell). c.value) cs) (held p.mask ++ map (λ (c : Cell). c.mask) cs);
-  action = action (p.beyond + a.beyond) a.target;
-}
+abbrev pub cells_in : Start → List Cell
+cells_in p = map cell_of (held p.bytes)
 
+-- the questions that a row of a state fits whose value and mask are those of a pattern
+abbrev pub fits_by : ℕ → List Cell → Question → Bool
+fits_by s cs q = q.state.number == s && bit_and q.key (spelled_in key_width (map (λ c. c.mask) cs)) == spelled_in key_width (map (λ c. c.value) cs)
+
+-- the first part of a row goes on with an entry
 abbrev pub line_as : Start → Entry → Line
-line_as p e = line_on p e.cells e.action
+line_as p e = record { fits = fits_by p.state.number (cells_in p ++ e.cells); action = action (p.beyond + e.action.beyond) e.action.target }
 
 -- the first part is the whole row
 abbrev pub fits_start : Start → Question → Bool
-fits_start p = fits_by p.state.number (held p.value) (held p.mask)
+fits_start p = fits_by p.state.number (cells_in p)
 
 abbrev pub line_with : Start → Option Target → Line
 line_with p t = record { fits = fits_start p; action = action p.beyond t }
 
--- the target is the chain's next node
-abbrev pub leads_on : List ℕ → Target → Bool
-leads_on [] t = false
-leads_on (c ∷ cs) t = leads_to c t
-
 -- a node and the chain behind it fit behind the first part of a row
 pub record Ready (cs : List ℕ) (p : Start) : Type 0 where
-  pub values : length (held p.value) + 4 * length cs ≤ 12
-  pub masks : length (held p.mask) + 4 * length cs ≤ 12
+  pub bytes : length (held p.bytes) + 4 * length cs ≤ 12
   pub beyond : p.beyond + length cs ≤ 3
 
 -- r is p with the lookup bytes of a piece behind it, w of them, and k headers more are passed
 pub record Longer (p r : Start) (w : ℕ) (q : TernaryRow) (k : ℕ) : Type 0 where
-  pub value : held r.value ≡ held p.value ++ take w (four q.value)
-  pub mask : held r.mask ≡ held p.mask ++ take w (four q.mask)
+  pub cells : cells_in r ≡ cells_in p ++ (piece_at w q).cells
   pub state : r.state ≡ p.state
   pub beyond : r.beyond ≡ p.beyond + k

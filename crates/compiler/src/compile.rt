@@ -67,7 +67,7 @@ fn check(table: &KindTable, file: &[u8], plan: &[u8], capacity: u16) -> Result<C
 fn check_room(rows: u16, capacity: u16) -> Result<(), LoadFault>
     ensures { fault_of result ≡ unless (roomy rows capacity) (LoadFault.TooMany rows) }
 {
-    if rows as usize > ROWS || rows > capacity {
+    if usize::from(rows) > ROWS || rows > capacity {
         return Err(LoadFault::TooMany { rows });
     }
     Ok(())

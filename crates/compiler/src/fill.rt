@@ -9,7 +9,7 @@ use crate::checked::Checked;
 use crate::program::CHAIN_BASE;
 use crate::sink::Sink;
 use crate::start::Start;
-use graphs::graph::Graph;
+use plans::path::Path;
 use stores::fault::StoreFault;
 use stores::state::State;
 use stores::store::Store;
@@ -34,7 +34,7 @@ impl<S: Store> Sink<'_, S> {
         ensures filled { Filled S.Store.meaning self.old self.new (map line_of (rows_alone checked.now)) }
     {
         for node in 0..checked.graph.size() {
-            self.fill_state(&checked.graph, node, node, &[])?;
+            self.fill_state(node, &Path::new(&checked.graph, node, &[]))?;
         }
         Ok(())
     }
@@ -48,30 +48,24 @@ impl<S: Store> Sink<'_, S> {
     {
         for node in 0..checked.graph.size() {
             let chain = checked.chains.chain(node);
-            let nodes = chain.named_nodes();
-            if nodes.is_empty() {
+            let path = Path::new(&checked.graph, node, chain.named_nodes());
+            if path.behind.is_empty() {
                 continue;
             }
-            self.fill_state(&checked.graph, CHAIN_BASE + node, node, nodes)?;
+            self.fill_state(CHAIN_BASE + node, &path)?;
         }
         Ok(())
     }
 
     // Puts the rows of a node and a chain into the store, under a state.
-    fn fill_state(
-        &mut self,
-        graph: &Graph,
-        number: u8,
-        node: u8,
-        chain: &[u8],
-    ) -> Result<(), StoreFault>
+    fn fill_state(&mut self, number: u8, path: &Path) -> Result<(), StoreFault>
         requires number { number < 64 }
-        requires short { length chain.now ≤ 3 }
-        requires room { Room (sink_of S.Store.meaning self.old) (map (store_row number) (entries (graph_view graph.now) node chain.now)) }
+        requires short { length path.now.behind.now ≤ 3 }
+        requires room { Room (sink_of S.Store.meaning self.old) (map (store_row number) (entries (graph_view path.now.graph.now) path.now.node path.now.behind.now)) }
         ensures answered { result ≡ Ok tt }
-        ensures filled { Filled S.Store.meaning self.old self.new (map line_of (map (store_row number) (entries (graph_view graph.now) node chain.now))) }
+        ensures filled { Filled S.Store.meaning self.old self.new (map line_of (map (store_row number) (entries (graph_view path.now.graph.now) path.now.node path.now.behind.now))) }
     {
         let state = State::new(number).unwrap();
-        self.emit(graph, node, chain, &Start::new(state))
+        self.emit(path, &Start::new(state))
     }
 }

@@ -1,25 +1,35 @@
 // The first part of a row, made longer header by header, and the row that it ends as.
-ghost use Rattle.std.specs.Prelude.{◌≡◌, ◌+◌, ◌<◌, ◌≤◌, [], length};
+ghost use Rattle.std.specs.Prelude.{◌≡◌, ◌+◌, ◌<◌, ◌≤◌, [], map, length, slice_index_or};
 ghost use Rattle.stores.specs.Fits.{fits};
-ghost use Rattle.walks.specs.Bytes.{spelled_in};
+ghost use Rattle.walks.specs.Rows.{free, cells_of};
 ghost use Rattle.compiler.specs.Held.{held};
-ghost use Rattle.compiler.specs.Sinks.{fits_start, Longer};
+ghost use Rattle.compiler.specs.Sinks.{cell_of, cells_in, fits_start, Longer};
 
 use crate::few::Few;
 use patterns::row::TernaryRow;
+use std::array;
 use stores::question::Row;
 use stores::state::State;
 
 // As many bytes as four nodes of four lookup places have.
 const BYTES: usize = 16;
 
+// A byte of a row's value, with that of its mask.
+#[derive(Clone, Copy)]
+pub struct Masked {
+    pub value: u8,
+    pub mask: u8,
+}
+
+// A byte that is not looked at.
+const FREE: Masked = Masked { value: 0, mask: 0 };
+
 // The first part of a row: its state, the bytes of its value and mask so far, and the headers passed
 // beyond the first.
 #[derive(Clone, Copy)]
 pub struct Start {
     pub state: State,
-    pub value: Few<u8, BYTES>,
-    pub mask: Few<u8, BYTES>,
+    pub bytes: Few<Masked, BYTES>,
     pub beyond: u8,
 }
 
@@ -27,14 +37,12 @@ impl Start {
     // Nothing yet but the state.
     pub(crate) fn new(state: State) -> Start
         ensures state { result.state ≡ state }
-        ensures value { held result.value ≡ [] }
-        ensures mask { held result.mask ≡ [] }
+        ensures bytes { held result.bytes ≡ [] }
         ensures beyond { result.beyond ≡ 0 }
     {
         Start {
             state,
-            value: Few::new(0),
-            mask: Few::new(0),
+            bytes: Few::new(FREE),
             beyond: 0,
         }
     }
@@ -45,23 +53,26 @@ impl Start {
     {
         Row {
             state: self.state,
-            value: key(self.value.as_slice()),
-            mask: key(self.mask.as_slice()),
+            value: u64::from_be_bytes(array::from_fn(|i| self.byte(i).value)),
+            mask: u64::from_be_bytes(array::from_fn(|i| self.byte(i).mask)),
         }
+    }
+
+    // The byte at a place; past the last, one that is not looked at.
+    fn byte(&self, i: usize) -> Masked
+        ensures value { result.value ≡ (slice_index_or (cells_in self.now) i free).value }
+        ensures mask { result.mask ≡ (slice_index_or (cells_in self.now) i free).mask }
+    {
+        self.bytes.as_slice().get(i).copied().unwrap_or(FREE)
     }
 
     // The first part with the lookup bytes of a piece behind it, the topmost first.
     pub(crate) fn longer(&self, piece: TernaryRow, width: usize) -> Start
-        requires { (width ≤ 4) × ((length (held self.now.value) + width ≤ 16) × (length (held self.now.mask) + width ≤ 16)) }
+        requires { (width ≤ 4) × (length (held self.now.bytes) + width ≤ 16) }
         ensures { Longer self.now result width piece 0 }
     {
         let mut longer = *self;
-        longer
-            .value
-            .extend_from_slice(&piece.value.to_be_bytes()[..width]);
-        longer
-            .mask
-            .extend_from_slice(&piece.mask.to_be_bytes()[..width]);
+        longer.bytes.extend_from_slice(&bytes_of(piece)[..width]);
         longer
     }
 
@@ -77,12 +88,14 @@ impl Start {
     }
 }
 
-// The number that the first eight bytes spell, the first topmost; zeros stand for missing ones.
-fn key(bytes: &[u8]) -> u64
-    ensures { result ≡ spelled_in 8 bytes.now }
+// The bytes of a piece, the topmost first.
+fn bytes_of(piece: TernaryRow) -> [Masked; 4]
+    ensures { map cell_of result ≡ cells_of 4 piece.value piece.mask }
 {
-    let mut eight = [0; 8];
-    let count = bytes.len().min(8);
-    eight[..count].copy_from_slice(&bytes[..count]);
-    u64::from_be_bytes(eight)
+    let values = piece.value.to_be_bytes();
+    let masks = piece.mask.to_be_bytes();
+    array::from_fn(|i| Masked {
+        value: values[i],
+        mask: masks[i],
+    })
 }

@@ -92,7 +92,7 @@ fn words(place: u8, mask: u8, shift: u8) -> Length {
 // The row for an EtherType, looked up in two bytes.
 fn ether_type(number: u16, target: Target) -> TernaryRow {
     TernaryRow {
-        value: (number as u32) << 16,
+        value: u32::from(number) << 16,
         mask: 0xFFFF_0000,
         target,
     }
@@ -101,7 +101,7 @@ fn ether_type(number: u16, target: Target) -> TernaryRow {
 // The row for an IPv4 protocol where the fragment offset is 0, looked up in bytes 6, 7 and 9.
 fn whole_packet_of(protocol: u8, target: Target) -> TernaryRow {
     TernaryRow {
-        value: (protocol as u32) << 8,
+        value: u32::from(protocol) << 8,
         mask: 0x1FFF_FF00,
         target,
     }

@@ -87,7 +87,7 @@ struct LengthText(Length);
 impl fmt::Display for LengthText {
     fn fmt<W: fmt::Write>(&self, f: &mut fmt::Formatter<W>) -> fmt::Result {
         match self.0 {
-            Length::Fixed(length) => write!(f, "{}", Count(length as usize, "byte")),
+            Length::Fixed(length) => write!(f, "{}", Count(usize::from(length), "byte")),
             Length::Counted {
                 place,
                 mask,
@@ -143,7 +143,7 @@ pub struct TargetText<'a>(pub Target, pub &'a Graph);
 impl fmt::Display for TargetText<'_> {
     fn fmt<W: fmt::Write>(&self, f: &mut fmt::Formatter<W>) -> fmt::Result {
         match self.0 {
-            Target::Node(n) => match self.1.named_nodes().get(n as usize) {
+            Target::Node(n) => match self.1.named_nodes().get(usize::from(n)) {
                 Some(node) => write!(f, "-> node {n} ({})", node.kind),
                 None => write!(f, "-> node {n}"),
             },

@@ -1,11 +1,11 @@
 // The stores side by side: the same rows, the same questions.
 use crate::failure::Failure;
+use slices::pile::fresh_pile;
 use slices::sliced::Sliced;
 use std::alloc::Global;
 use std::io;
 use stores::fill::fill;
 use stores::listing::Listing;
-use stores::pair::Pair;
 use stores::question::{Question, Row};
 use stores::state::State;
 use stores::store::Store;
@@ -49,14 +49,9 @@ pub fn print_stores<'a>(rt: &(impl Print + AllocGlobal)) -> Result<(), Failure<'
     let rows = rows.as_slice();
     let listing = tried(&mut Listing::new(), rows)?;
     let sliced = tried(&mut Sliced::new(), rows)?;
-    let pile = tried(&mut pile(), rows)?;
+    let pile = tried(&mut fresh_pile(), rows)?;
     print_rows(rt)?;
     Ok(print_columns(rt, [listing, sliced, pile])?)
-}
-
-/// A pile of three stores: a sliced store, and behind it a listing store and a sliced one.
-pub fn pile() -> Pair<Sliced, Pair<Listing, Sliced>> {
-    Pair::new(Sliced::new(), Pair::new(Listing::new(), Sliced::new()))
 }
 
 fn rows<'a>(heap: Global) -> Result<Vec<Row>, Failure<'a>> {

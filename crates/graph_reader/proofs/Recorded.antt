@@ -5,7 +5,7 @@ use Rattle.std.proofs.lemmas.List.{get_or-take, get_or-drop}
 use Rattle.graph_reader.specs.declared.fault.FileFault.TheVariants.{Pair, Byte}
 use Rattle.graph_reader.specs.Records.{at, right, row_right}
 use Rattle.graph_reader.specs.Files.{offset, size, pair_right, record_at, first_wrong, pair_fault, record_fault, byte_fault}
-use Rattle.refusals.proofs.Searching.{holds, nowhere, wrapped_none}
+use Rattle.refusals.proofs.Searching.{holds, nowhere, option_map_none}
 use Rattle.graph_reader.proofs.Pairing.{Right, right_says, record_length_lem}
 
 -- the rows fill the record, they are 1 to 16, the places at most 4, and each byte is right
@@ -42,10 +42,10 @@ whole_from r e w =
 pub record_whole : (f : List ℕ) (i : ℕ) → pair_fault f ≡ None → byte_fault f ≡ None → i < at f 0 → Whole (record_at f i)
 record_whole f i p b h =
     whole_from (record_at f i) (record_counts f i (right_says f i (holds (pair_right f) Pair (at f 0) i p h)))
-    (wrapped_none (Byte i) (first_wrong (record_at f i)) (nowhere (record_fault f) (at f 0) 0 b i (omega arith) (omega arith)))
+    (option_map_none (Byte i) (first_wrong (record_at f i)) (nowhere (record_fault f) (at f 0) 0 b i (omega arith) (omega arith)))
 
 -- the test of byte j of row k
-pub row_right_lem : (r : List ℕ) (k j : ℕ) → j < 10 → right r (16 + 10 * k + j) ≡ true → row_right r (16 + 10 * k) j ≡ true
+row_right_lem : (r : List ℕ) (k j : ℕ) → j < 10 → right r (16 + 10 * k + j) ≡ true → row_right r (16 + 10 * k) j ≡ true
 unfolding right
 row_right_lem r k j h e =
     let i = 16 + 10 * k + j in
@@ -55,3 +55,7 @@ row_right_lem r k j h e =
     let byte : (i - 16) % 10 ≡ j = omega arith in
     sym (cond-false (ltb i 8) _ _ (le-ltb i 8 a) ∙ cond-false (ltb i 16) _ _ (le-ltb i 16 b)
     ∙ ap₂ (λ k j. row_right r (16 + 10 * k) j) row byte) ∙ e
+
+-- each byte of each row of a record all of whose bytes are right
+pub row_bytes_right : (r : List ℕ) → Whole r → (k : ℕ) → k < at r 14 → (j : ℕ) → j < 10 → row_right r (16 + 10 * k) j ≡ true
+row_bytes_right r whole k h j l = row_right_lem r k j l (whole.each (16 + 10 * k + j) (omega (arith, whole.counted)))

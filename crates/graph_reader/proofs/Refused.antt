@@ -4,8 +4,8 @@ use Rattle.std.proofs.Common.{◌≡◌, ℕ, ◌+◌, ◌<◌, ◌≤◌, false
 use Rattle.std.proofs.lemmas.Bool.{and_cases, or_cases, or_parts, cases_Bool, leb-false, ltb-true, ltb-false, eqb-true, eqb-false}
 use Rattle.refusals.specs.Searching.{first_told, unless, unless_fault}
 use Rattle.refusals.specs.Least.{rank, NotAfter, Answers}
-use Rattle.refusals.proofs.Searching.{or_else_none, wrapped_none}
-use Rattle.refusals.proofs.Lowest.{Lowest, lowest_like, lowest_or, lowest_of, lowest_unless, lowest_wrapped, lower}
+use Rattle.refusals.proofs.Searching.{option_or_none, option_map_none}
+use Rattle.refusals.proofs.Lowest.{Lowest, lowest_like, lowest_or, lowest_of, lowest_unless, lowest_mapped, lower}
 use Rattle.headers.specs.declared.kinds.Kind.{Kind}
 use Rattle.graphs.specs.declared.fault.GraphFault.{GraphFault}
 use Rattle.graphs.specs.declared.fault.GraphFault.TheVariants.{Target, Covered, Short}
@@ -95,7 +95,7 @@ module _ (r : ℕ → List ℕ) where
 
   record_lowest : (n : ℕ) → Lowest before (RecordTold n) (option_map (Byte n) (first_wrong (r n)))
   record_lowest n =
-      lowest_wrapped before (Byte n) (λ x. (b : ℕ) × (0 ≤ b) × (b < 0 + length (r n)) × ((x ≡ b) × (right (r n) b ≡ false))) (first_wrong (r n))
+      lowest_mapped before (Byte n) (λ x. (b : ℕ) × (0 ≤ b) × (b < 0 + length (r n)) × ((x ≡ b) × (right (r n) b ≡ false))) (first_wrong (r n))
       (lowest_of (λ x y. before (Byte n x) (Byte n y)) (λ b x. (x ≡ b) × (right (r n) b ≡ false)) (λ b. unless (right (r n) b) b)
       (λ b. lowest_unless (λ x y. before (Byte n x) (Byte n y)) (right (r n) b) b (inr (refl, inr (refl, omega arith))))
       (λ i j x y l p q. inr (refl, inr (refl, omega (arith, p.0, q.0))))
@@ -195,15 +195,15 @@ module _ (minimum : Kind → ℕ) (f : List ℕ) where
       (lowest_or order InFile InGraph
       (λ e d p q. subst (λ e. order e d) (sym p.1) (subst (order (File p.0)) (sym q.1) (file_below p.0 q.0)))
       (option_map File (file_fault f)) (option_map Graph (graph_fault minimum (nodes_in f)))
-      (lowest_wrapped order File (FileApplies f) (file_fault f) (file_lowest f))
-      (lowest_wrapped order Graph (GraphApplies minimum (nodes_in f)) (graph_fault minimum (nodes_in f)) (graph_lowest minimum (nodes_in f))))
+      (lowest_mapped order File (FileApplies f) (file_fault f) (file_lowest f))
+      (lowest_mapped order Graph (GraphApplies minimum (nodes_in f)) (graph_fault minimum (nodes_in f)) (graph_lowest minimum (nodes_in f))))
 
   -- no fault: none of its parts
   pub clear : read_fault minimum f ≡ None → (shape_fault f ≡ None) × (pair_fault f ≡ None) × (byte_fault f ≡ None)
   clear e =
-      let a = wrapped_none File (file_fault f) (or_else_none (option_map File (file_fault f)) (option_map Graph (graph_fault minimum (nodes_in f))) e).0 in
-      let b = or_else_none (shape_fault f) (option_or (pair_fault f) (byte_fault f)) a in
-      let c = or_else_none (pair_fault f) (byte_fault f) b.1 in
+      let a = option_map_none File (file_fault f) (option_or_none (option_map File (file_fault f)) (option_map Graph (graph_fault minimum (nodes_in f))) e).0 in
+      let b = option_or_none (shape_fault f) (option_or (pair_fault f) (byte_fault f)) a in
+      let c = option_or_none (pair_fault f) (byte_fault f) b.1 in
       (b.0, c.0, c.1)
 
   abbrev ToldOf : Result (List NodeView) ReadFault → Type 0

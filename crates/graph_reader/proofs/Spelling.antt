@@ -12,7 +12,7 @@ use Rattle.graphs.specs.View.{row_count}
 use Rattle.graph_reader.specs.Encoding.{two, four, length_bytes, place_bytes, target_bytes, ternary_bytes, range_bytes, sort_byte, row_bytes, record_of}
 use Rattle.graph_reader.specs.Records.{at, at2, at4, fixed_right, counted_right, right, row_right}
 use Rattle.graph_reader.specs.Decoding.{target_in, ternary_in, range_in, rows_in, node_in}
-use Rattle.graph_reader.proofs.Recorded.{Whole, row_right_lem}
+use Rattle.graph_reader.proofs.Recorded.{Whole, row_bytes_right}
 
 -- digits
 pub two_digits : (a b : ℕ) → b < 256 → two (a * 256 + b) ≡ a ∷ b ∷ []
@@ -143,9 +143,6 @@ sort_one : (n s : ℕ) → cond (ltb n 2) (eqb s 0) (leb s 1) ≡ true → eqb s
 sort_one n s h e = grind (arith, nat_tests)
 
 module _ (r : List ℕ) (byte : (i : ℕ) → at r i < 256) (w : Whole r) where
-  row_bytes_lem : (k : ℕ) → k < at r 14 → (j : ℕ) → j < 10 → row_right r (16 + 10 * k) j ≡ true
-  row_bytes_lem k h j l = row_right_lem r k j l (w.each (16 + 10 * k + j) (omega (arith, w.counted)))
-
   head : (j : ℕ) → j < 16 → right r j ≡ true
   head j h = w.each j (omega (arith, w.counted))
 
@@ -161,12 +158,12 @@ module _ (r : List ℕ) (byte : (i : ℕ) → at r i < 256) (w : Whole r) where
       (λ s.
       let a = eqb-true _ _ s in
       let n = length-map-range_with_len (λ k. ternary_in r (16 + 10 * k)) 0 (at r 14) in
-      let rows = rows_off ternary_bytes (ternary_in r) r (at r 14) 0 (λ k h. ternary_spelled r byte (16 + 10 * k) (row_bytes_lem k (omega arith))) (omega (arith, w.counted)) in
+      let rows = rows_off ternary_bytes (ternary_in r) r (at r 14) 0 (λ k h. ternary_spelled r byte (16 + 10 * k) (row_bytes_right r w k (omega arith))) (omega (arith, w.counted)) in
       cc)
       (λ s.
       let a = range_sort s in
       let n = length-map-range_with_len (λ k. range_in r (16 + 10 * k)) 0 (at r 14) in
-      let rows = rows_off range_bytes (range_in r) r (at r 14) 0 (λ k h. range_spelled r byte (16 + 10 * k) (row_bytes_lem k (omega arith)) s) (omega (arith, w.counted)) in
+      let rows = rows_off range_bytes (range_in r) r (at r 14) 0 (λ k h. range_spelled r byte (16 + 10 * k) (row_bytes_right r w k (omega arith)) s) (omega (arith, w.counted)) in
       cc)
 
   pub spelled : record_of (node_in r) ≡ r

@@ -5,7 +5,7 @@ ghost use Rattle.graph_reader.specs.Decoding.{length_in, target_in, ternary_in, 
 ghost use Rattle.graph_reader.specs.Files.{pair_fault, byte_fault};
 ghost use Rattle.headers.specs.Kinds.{kind_at};
 
-use crate::pairs::record_of;
+use crate::pairs::Pair;
 use crate::record::RowAt;
 use graphs::graph::{Graph, Length, NODES, Node, Rows};
 use headers::kinds::Kind;
@@ -124,8 +124,8 @@ pub(crate) fn graph_in(file: &[u8]) -> Graph
     ensures counts { Counts result }
 {
     let mut nodes = [Node::blank(); NODES];
-    for (i, node) in nodes[..file[0] as usize].iter_mut().enumerate() {
-        *node = node_in(record_of(file, i as u8));
+    for (i, node) in nodes[..usize::from(file[0])].iter_mut().enumerate() {
+        *node = node_in(Pair::of(file, i as u8).record());
     }
     Graph {
         count: file[0],

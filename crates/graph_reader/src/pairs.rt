@@ -1,5 +1,5 @@
 // The file's shape, its pairs, and the records that they name.
-ghost use Rattle.std.specs.Prelude.{◌≡◌, ◌+◌, ◌≤◌, ◌^◌, true, length, None};
+ghost use Rattle.std.specs.Prelude.{◌≡◌, ◌+◌, ◌<◌, ◌≤◌, ◌^◌, true, length, None};
 ghost use Rattle.refusals.specs.Searching.{fault_of};
 ghost use Rattle.graph_reader.specs.Files.{offset, size, begins, pair_right, record_at, shape_fault, pair_fault, byte_fault};
 
@@ -21,60 +21,78 @@ pub(crate) fn check_shape(file: &[u8]) -> Result<(), FileFault>
     Ok(())
 }
 
-// What a pair says of a node's record: where it begins, and how long it is.
+// The pair of a node: it says where the node's record begins in the file, and how long it is.
 #[derive(Clone, Copy)]
-struct Pair {
-    offset: u16,
-    size: u16,
+pub(crate) struct Pair<'a> {
+    pub(crate) file: &'a [u8],
+    pub(crate) node: u8,
 }
 
-impl Pair {
-    // The pair of node i.
-    fn of(file: &[u8], i: u8) -> Pair
-        ensures offset { result.offset ≡ offset file.now i }
-        ensures size { result.size ≡ size file.now i }
+impl<'a> Pair<'a> {
+    // The pair of a node of the file.
+    pub(crate) fn of(file: &'a [u8], node: u8) -> Pair<'a>
+        ensures file { result.file.now ≡ file.now }
+        ensures node { result.node ≡ node }
     {
-        Pair {
-            offset: number2(file, 2 + 4 * i as usize),
-            size: number2(file, 4 + 4 * i as usize),
+        Pair { file, node }
+    }
+
+    // Where the record begins, by the pair.
+    fn begin(&self) -> usize
+        ensures is { result ≡ offset self.now.file.now self.now.node }
+        ensures brief { result < 2 ^ 16 }
+    {
+        usize::from(number2(self.file, 2 + 4 * usize::from(self.node)))
+    }
+
+    // How long the record is, by the pair.
+    fn size(&self) -> usize
+        ensures is { result ≡ size self.now.file.now self.now.node }
+        ensures brief { result < 2 ^ 16 }
+    {
+        usize::from(number2(self.file, 4 + 4 * usize::from(self.node)))
+    }
+
+    // Where the record ends, by the pair.
+    fn end(&self) -> usize
+        ensures { result ≡ offset self.now.file.now self.now.node + size self.now.file.now self.now.node }
+    {
+        self.begin() + self.size()
+    }
+
+    // Where the record has to begin: behind the pairs, or where the record before it ends.
+    fn due(&self) -> usize
+        ensures { result ≡ begins self.now.file.now self.now.node }
+    {
+        if self.node == 0 {
+            return 2 + 4 * usize::from(byte_at(self.file, 0));
         }
+        Pair::of(self.file, self.node - 1).end()
     }
 
-    fn begin(self) -> usize
-        ensures { result ≡ self.offset }
+    // Whether the pair says where the node's record lies.
+    #[tactic(auto, unfolding(crate::specs::Files::pair_right))]
+    fn is_right(&self) -> bool
+        ensures { result ≡ pair_right self.now.file.now self.now.node }
     {
-        self.offset as usize
+        let next = usize::from(self.node) + 1;
+        let rows = byte_at(self.file, self.begin() + 14);
+        self.file.len() >= 2 + 4 * next
+            && self.begin() == self.due()
+            && self.end() <= self.file.len()
+            && self.size() == 16 + 10 * usize::from(rows)
+            && (next < usize::from(byte_at(self.file, 0)) || self.end() == self.file.len())
     }
 
-    fn end(self) -> usize
-        ensures { result ≡ self.offset + self.size }
+    // The record of the node.
+    pub(crate) fn record(&self) -> &'a [u8]
+        requires { pair_right self.now.file.now self.now.node ≡ true }
+        ensures is { result.now ≡ record_at self.now.file.now self.now.node }
+        ensures brief { length result.now ≤ 2 ^ 16 }
     {
-        self.offset as usize + self.size as usize
+        let begin = self.begin();
+        &self.file[begin..begin + self.size()]
     }
-}
-
-// Where the record of node i has to begin.
-fn begin_of(file: &[u8], i: u8) -> usize
-    ensures { result ≡ begins file.now i }
-{
-    if i == 0 {
-        return 2 + 4 * byte_at(file, 0) as usize;
-    }
-    Pair::of(file, i - 1).end()
-}
-
-// Whether pair i says where the record of node i lies.
-#[tactic(auto, unfolding(crate::specs::Files::pair_right))]
-fn pair_right(file: &[u8], i: u8) -> bool
-    ensures { result ≡ pair_right file.now i }
-{
-    let pair = Pair::of(file, i);
-    let rows = byte_at(file, pair.begin() + 14);
-    file.len() >= 6 + 4 * i as usize
-        && pair.begin() == begin_of(file, i)
-        && pair.end() <= file.len()
-        && pair.size as usize == 16 + 10 * rows as usize
-        && (i as usize + 1 < byte_at(file, 0) as usize || pair.end() == file.len())
 }
 
 // Refused by 2, at the first pair that is wrong.
@@ -83,18 +101,8 @@ pub(crate) fn check_pairs(file: &[u8]) -> Result<(), FileFault>
     ensures { fault_of result ≡ pair_fault file.now }
 {
     (0..file[0])
-        .find(|i| !pair_right(file, *i))
+        .find(|node| !Pair::of(file, *node).is_right())
         .map_or(Ok(()), |pair| Err(FileFault::Pair { pair }))
-}
-
-// The record of node i.
-pub(crate) fn record_of(file: &[u8], i: u8) -> &[u8]
-    requires { pair_right file.now i ≡ true }
-    ensures is { result.now ≡ record_at file.now i }
-    ensures brief { length result.now ≤ 2 ^ 16 }
-{
-    let pair = Pair::of(file, i);
-    &file[pair.begin()..pair.end()]
 }
 
 // Refused by 3, at the first node and byte that is out of its range.
@@ -103,7 +111,7 @@ pub(crate) fn check_bytes(file: &[u8]) -> Result<(), FileFault>
     ensures { fault_of result ≡ byte_fault file.now }
 {
     for node in 0..file[0] {
-        check_record(node, record_of(file, node))?;
+        check_record(node, Pair::of(file, node).record())?;
     }
     Ok(())
 }

@@ -89,7 +89,7 @@ fn lookup_right(bytes: &[u8], i: usize) -> bool
     match i {
         8 => byte <= 4,
         9..=12 => {
-            if i - 9 < places as usize {
+            if i - 9 < usize::from(places) {
                 byte <= 63
             } else {
                 byte == 0
@@ -169,18 +169,18 @@ impl<'a> RowAt<'a> {
     pub(crate) fn byte(&self, j: u8) -> u8
         ensures { result ≡ at self.now.bytes.now (self.now.begin + j) }
     {
-        byte_at(self.bytes, self.begin + j as usize)
+        byte_at(self.bytes, self.begin + usize::from(j))
     }
 
     pub(crate) fn number2(&self, j: u8) -> u16
         ensures { result ≡ at2 self.now.bytes.now (self.now.begin + j) }
     {
-        number2(self.bytes, self.begin + j as usize)
+        number2(self.bytes, self.begin + usize::from(j))
     }
 
     pub(crate) fn number4(&self, j: u8) -> u32
         ensures { result ≡ at4 self.now.bytes.now (self.now.begin + j) }
     {
-        number4(self.bytes, self.begin + j as usize)
+        number4(self.bytes, self.begin + usize::from(j))
     }
 }

@@ -5,7 +5,7 @@ use Rattle.std.proofs.lemmas.List.{length-map}
 use Rattle.std.proofs.lemmas.List.FromFn.{length-map-range_with_len, get_or-map-range_with_len}
 use Rattle.std.proofs.lemmas.Bool.{and_from, le-leb}
 use Rattle.refusals.specs.Searching.{unless, unless_fault}
-use Rattle.refusals.proofs.Searching.{or_else_none, wrapped_none, unless_none, nowhere, none_of}
+use Rattle.refusals.proofs.Searching.{option_or_none, option_map_none, unless_none, nowhere, none_of}
 use Rattle.headers.specs.declared.kinds.Kind.{Kind}
 use Rattle.graphs.specs.declared.graph.Graph.{Graph}
 use Rattle.graphs.specs.declared.graph.Node.{Node}
@@ -76,7 +76,7 @@ module _ (minimum : Kind → ℕ) (f : List ℕ) (byte : (i : ℕ) → at f i < 
       ∙ nowhere (record_fault f) (at f 0) 0 (clear minimum f told).2 i (omega arith) (omega (arith, many)))
 
   graph_clear : graph_fault minimum (graph_view g) ≡ None
-  graph_clear = ap (graph_fault minimum) shown ∙ wrapped_none read.Graph (graph_fault minimum (nodes_in f)) (or_else_none (option_map read.File (file_fault f)) _ told).1
+  graph_clear = ap (graph_fault minimum) shown ∙ option_map_none read.Graph (graph_fault minimum (nodes_in f)) (option_or_none (option_map read.File (file_fault f)) _ told).1
 
   pub only_room : (room : ℕ) → write_fault minimum g room ≡ copy_fault minimum f room
   only_room room =

@@ -4,7 +4,7 @@ use Rattle.std.proofs.Common.{◌≡◌, ℕ, false, ◌&&◌, leb, ◌⊎◌, L
 use Rattle.std.proofs.lemmas.Bool.{and_cases, and_left, and_right, leb-false, lt-leb}
 use Rattle.refusals.specs.Searching.{unless, unless_fault}
 use Rattle.refusals.specs.Least.{rank, NotAfter, Answers}
-use Rattle.refusals.proofs.Lowest.{Lowest, lowest_like, lowest_or, lowest_unless, lowest_wrapped}
+use Rattle.refusals.proofs.Lowest.{Lowest, lowest_like, lowest_or, lowest_unless, lowest_mapped}
 use Rattle.headers.specs.declared.kinds.Kind.{Kind}
 use Rattle.graphs.specs.declared.graph.Graph.{Graph}
 use Rattle.graphs.specs.declared.graph.Node.{Node}
@@ -98,11 +98,11 @@ module _ (minimum : Kind → ℕ) (g : Graph) (room : ℕ) where
         | inr w ↦ inl (omega (arith, ap (λ x. rank (of_write x)) p.1, file_rank p.0, ap (λ x. rank (of_write x)) w.0))
       ])
       (option_map File (option_or (count_fault g) (records_fault (nodes g)))) (option_or (option_map InGraph (graph_fault minimum (graph_view g))) (unless (leb 5762 room) Area))
-      (lowest_wrapped order File (RecordApplies g) (option_or (count_fault g) (records_fault (nodes g))) (record_lowest g))
+      (lowest_mapped order File (RecordApplies g) (option_or (count_fault g) (records_fault (nodes g))) (record_lowest g))
       (lowest_or order OfGraph OfArea
       (λ e d p q. inl (omega (arith, ap (λ x. rank (of_write x)) p.1, graph_ranks p.0, ap (λ x. rank (of_write x)) q.0)))
       (option_map InGraph (graph_fault minimum (graph_view g))) (unless (leb 5762 room) Area)
-      (lowest_wrapped order InGraph (GraphApplies minimum (graph_view g)) (graph_fault minimum (graph_view g)) (graph_lowest minimum (graph_view g)))
+      (lowest_mapped order InGraph (GraphApplies minimum (graph_view g)) (graph_fault minimum (graph_view g)) (graph_lowest minimum (graph_view g)))
       (lowest_unless order (leb 5762 room) Area (inr (refl, inr (refl, omega arith)))))))
 
   module _ {X : Type 0} (Says : X → Type 0) (x : X) (says : write_fault minimum g room ≡ None → Says x) where

@@ -4,7 +4,7 @@ use Rattle.std.proofs.Common.{◌≡◌, ℕ, ◌<◌, ◌≤◌, leb, List, len
 use Rattle.std.proofs.lemmas.List.{length-map}
 use Rattle.std.proofs.lemmas.Bool.{and_parts, leb-true}
 use Rattle.refusals.specs.Searching.{unless}
-use Rattle.refusals.proofs.Searching.{or_else_none, wrapped_none, unless_none, nowhere}
+use Rattle.refusals.proofs.Searching.{option_or_none, option_map_none, unless_none, nowhere}
 use Rattle.headers.specs.declared.kinds.Kind.{Kind}
 use Rattle.graphs.specs.declared.graph.Graph.{Graph}
 use Rattle.graphs.specs.declared.graph.Node.{Node}
@@ -27,17 +27,17 @@ module _ (minimum : Kind → ℕ) (g : Graph) (room : ℕ) (clear : write_fault 
   views = graph_view g
 
   records : records_fault nodes ≡ None
-  records = wrapped_none File (records_fault nodes) (or_else_none (option_map File (records_fault nodes)) _ (or_else_none (option_map File (count_fault g)) _ clear).1).0
+  records = option_map_none File (records_fault nodes) (option_or_none (option_map File (records_fault nodes)) _ (option_or_none (option_map File (count_fault g)) _ clear).1).0
 
   sound_graph : graph_fault minimum views ≡ None
   sound_graph =
-      wrapped_none InGraph (graph_fault minimum views)
-      (or_else_none (option_map InGraph (graph_fault minimum views)) (unless (leb 5762 room) Area) (or_else_none (option_map File (records_fault nodes)) _ (or_else_none (option_map File (count_fault g)) _ clear).1).1).0
+      option_map_none InGraph (graph_fault minimum views)
+      (option_or_none (option_map InGraph (graph_fault minimum views)) (unless (leb 5762 room) Area) (option_or_none (option_map File (records_fault nodes)) _ (option_or_none (option_map File (count_fault g)) _ clear).1).1).0
 
   some : 1 ≤ g.count
   some =
       leb-true 1 g.count (and_parts (leb 1 g.count) (leb g.count 32)
-      (unless_none _ Shape (wrapped_none File (count_fault g) (or_else_none (option_map File (count_fault g)) _ clear).0))).0
+      (unless_none _ Shape (option_map_none File (count_fault g) (option_or_none (option_map File (count_fault g)) _ clear).0))).0
 
   many : length views ≡ g.count
   many = length-map nodes node_view ∙ w.full
@@ -46,7 +46,7 @@ module _ (minimum : Kind → ℕ) (g : Graph) (room : ℕ) (clear : write_fault 
   right_record i h =
       let l : i < length nodes = omega (arith, length-map nodes node_view) in
       ap (λ v. first_wrong (record_of v)) (node_at_lem nodes refl i no_node l) ∙ ap first_wrong (sym (w.stand i l))
-      ∙ wrapped_none (Byte i) (first_wrong (record_for (node_of nodes i))) (nowhere (record_fault_at nodes) (length nodes) 0 records i (omega arith) (omega arith))
+      ∙ option_map_none (Byte i) (first_wrong (record_for (node_of nodes i))) (nowhere (record_fault_at nodes) (length nodes) 0 records i (omega arith) (omega arith))
 
   pub written_reads_back : ReadsBack minimum views
   written_reads_back = reads_back views (omega (arith, many, some)) (omega (arith, many, w.few)) right_record minimum sound_graph

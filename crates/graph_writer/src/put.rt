@@ -40,7 +40,7 @@ fn place_byte(node: &Node, j: u8) -> u8
     ensures { result ≡ place_byte node.now.place_count node.now.places j }
 {
     if j < node.place_count {
-        node.places[j as usize]
+        node.places[usize::from(j)]
     } else {
         0
     }

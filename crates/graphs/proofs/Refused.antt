@@ -4,7 +4,7 @@ use Rattle.std.proofs.Common.{◌≡◌, ℕ, ◌+◌, ◌^◌, ◌<◌, ◌≤�
 use Rattle.std.proofs.lemmas.Bool.{cases_lt, both_ways, lt-ltb, le-ltb, leb-false, lt-leb, and_from, and_left, and_right}
 use Rattle.refusals.specs.Searching.{fault_of}
 use Rattle.refusals.specs.Least.{NotAfter, Answers}
-use Rattle.refusals.proofs.Lowest.{Lowest, lowest_like, lowest_or, lowest_of, lowest_unless, lowest_wrapped, lower}
+use Rattle.refusals.proofs.Lowest.{Lowest, lowest_like, lowest_or, lowest_of, lowest_unless, lowest_mapped, lower}
 use Rattle.headers.specs.declared.kinds.Kind.{Kind}
 use Rattle.patterns.specs.declared.row.Target.{Target as To}
 use Rattle.patterns.specs.declared.row.Target.TheVariants as to
@@ -90,7 +90,7 @@ module _ (minimum : Kind → ℕ) (vs : List NodeView) where
   cover_lowest : Lowest ahead (Among CoveredTold) (first_node covered_fault vs)
   cover_lowest =
       lowest_of ahead CoveredTold (node_fault covered_fault vs)
-      (λ n. lowest_wrapped ahead (Covered n) (CoveredRow (node_at vs n).rows) (covered_in (node_at vs n).rows)
+      (λ n. lowest_mapped ahead (Covered n) (CoveredRow (node_at vs n).rows) (covered_in (node_at vs n).rows)
       (lowest_first (λ x y. ahead (Covered n x) (Covered n y)) (CoveredRow (node_at vs n).rows) (λ i j l. inr (refl, inr (refl, l))) (covered_in (node_at vs n).rows) (covered_lowest (node_at vs n).rows)))
       (λ i j e d l p q. later Covered i j p.0 q.0 e d p.1 q.1 (inr (refl, inl l)))
       (length vs) 0

@@ -47,11 +47,12 @@ fn check_targets(graph: &Graph) -> Result<(), GraphFault>
 fn check_lengths(table: &KindTable, graph: &Graph) -> Result<(), GraphFault>
     ensures { fault_of result ≡ first_node (short_fault (minimum_in table.now)) (graph_view graph.now) }
 {
-    check_each(&LengthCheck { table: *table }, graph)
+    check_each(&LengthCheck { table }, graph)
 }
 
 // A check of one node at a time.
-// A trait and no closure: its ghost member names what a check tells, so that one clause says it of all three.
+// A trait and no closure: its ghost member names what a check tells. A function over a closure would take that as a
+// ghost argument, with a `requires` that each of the three calls has to meet.
 trait NodeCheck {
     // What is told of node n.
     ghost told: { Self → ℕ → NodeView → Option GraphFault };
@@ -80,7 +81,14 @@ impl NodeCheck for TargetCheck {
     ghost told = { λ s. target_fault s.count };
 
     fn check(&self, n: u8, node: &Node) -> Result<(), GraphFault> {
-        targets_of(self.count, n, node)
+        (0..node.row_total())
+            .find(|k| !target_sound(self.count, n, node.target(*k)))
+            .map_or(Ok(()), |k| {
+                Err(GraphFault::Target {
+                    node: n,
+                    row: k as u8,
+                })
+            })
     }
 }
 
@@ -103,12 +111,12 @@ impl NodeCheck for CoverCheck {
 
 // Number 6, by a table of kinds.
 #[derive(Clone, Copy)]
-struct LengthCheck {
-    table: KindTable,
+struct LengthCheck<'a> {
+    table: &'a KindTable,
 }
 
-impl NodeCheck for LengthCheck {
-    ghost told = { λ s. short_fault (minimum_in s.table) };
+impl NodeCheck for LengthCheck<'_> {
+    ghost told = { λ s. short_fault (minimum_in s.table.now) };
 
     fn check(&self, n: u8, node: &Node) -> Result<(), GraphFault> {
         match node.length {
@@ -121,19 +129,6 @@ impl NodeCheck for LengthCheck {
             Length::Counted { .. } => Ok(()),
         }
     }
-}
-
-fn targets_of(count: u8, n: u8, node: &Node) -> Result<(), GraphFault>
-    ensures { fault_of result ≡ target_fault count n (node_view node.now) }
-{
-    (0..node.row_total())
-        .find(|k| !target_sound(count, n, node.target(*k)))
-        .map_or(Ok(()), |k| {
-            Err(GraphFault::Target {
-                node: n,
-                row: k as u8,
-            })
-        })
 }
 
 fn target_sound(count: u8, n: u8, target: Target) -> bool

@@ -23,7 +23,10 @@ impl Graph {
         ensures few { length (graph_view self.now) ≤ 32 }
     {
         let nodes = self.named_nodes();
-        nodes.get(number as usize).copied().unwrap_or(Node::blank())
+        nodes
+            .get(usize::from(number))
+            .copied()
+            .unwrap_or(Node::blank())
     }
 }
 

@@ -1,5 +1,6 @@
 -- The kinds of header and their numbers.
-use Rattle.std.specs.Prelude.{ℕ, cond, Some, None, Ok, Err, Option, Result, ◌==◌, nat_le}
+use Rattle.std.specs.Option.{ok_or}
+use Rattle.std.specs.Prelude.{ℕ, cond, Some, None, Option, Result, ◌==◌, nat_le}
 use Rattle.headers.specs.declared.kinds.Kind.{Kind}
 use Rattle.headers.specs.declared.kinds.UnknownKind.{UnknownKind}
 use Rattle.headers.specs.declared.kinds.Kind.TheVariants.{Ethernet, Vlan, Mpls, Ipv4, Ipv6, Tcp, Udp, Gre, Icmp, Arp, Other}
@@ -28,4 +29,4 @@ kind_of n = cond (nat_le n 10) (Some (kind_at n)) None
 
 -- the same, where a number that no kind has is told
 abbrev pub kind_told : ℕ → Result Kind UnknownKind
-kind_told n = cond (nat_le n 10) (Ok (kind_at n)) (Err (record { number = n }))
+kind_told n = ok_or (kind_of n) (record { number = n })

@@ -33,8 +33,8 @@ pub fn field_in<'a>(
     let Some(place) = table.field(kind, number) else {
         return Ok(None);
     };
-    let from = mark.offset as usize + place.offset as usize;
-    let length = place.length as usize;
+    let from = usize::from(mark.offset) + usize::from(place.offset);
+    let length = usize::from(place.length);
     // By a test and no `get`, here and in `payload`: what `get` hands out is not told to lie in the packet's own memory.
     if from + length > packet.len() {
         return Err(PartFault::FieldOutside);

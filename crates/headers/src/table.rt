@@ -107,7 +107,7 @@ impl KindTable {
         ensures { result ≡ field_in self.now kind number }
     {
         let row = self.row(kind);
-        if number < row.field_count as usize {
+        if number < usize::from(row.field_count) {
             row.fields.get(number).copied()
         } else {
             None

@@ -64,8 +64,8 @@ pub fn split(span: &Span, out: &mut [Block; 30]) -> usize
     ensures rule { SplitsInto span.now.low span.now.high (split_of span.now.low span.now.high) }
     ensures same { (k : ℕ) → k < 2 ^ 16 → list_any (λ b. block_fits b k) (split_of span.now.low span.now.high) ≡ span_fits span.now k }
 {
-    let high = span.high as u32;
-    let mut low = span.low as u32;
+    let high = u32::from(span.high);
+    let mut low = u32::from(span.low);
     // The blocks are counted by hand, in an array: the loop ends with the range and not with the array, and a device has no heap.
     let mut n = 0;
     while low <= high {

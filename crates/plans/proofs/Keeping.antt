@@ -1,7 +1,7 @@
 -- The test of the rules says what the rules say.
 use Rattle.std.specs.List.{list_any}
-use Rattle.std.proofs.Common.{◌≡◌, ℕ, zero, suc, ◌+◌, ◌-◌, ◌<◌, ◌≤◌, Bool, true, false, ◌&&◌, leb, List, [], ◌∷◌, length, get_or, sym, refl, ap, ◌∙◌, inl, inr, arith}
-use Rattle.std.proofs.lemmas.Bool.{and_parts, and_from, or_cases, or_left, or_right, leb-true, le-leb, eqb-true, eq-eqb, both_ways}
+use Rattle.std.proofs.Common.{◌≡◌, ℕ, zero, suc, ◌+◌, ◌-◌, ◌<◌, ◌≤◌, Bool, true, false, ◌&&◌, leb, List, [], ◌∷◌, length, get_or, refl, ap, ◌∙◌, inl, inr, arith}
+use Rattle.std.proofs.lemmas.Bool.{and_parts, and_from, or_cases, or_left, or_right, leb-true, le-leb, eq-eqb, both_ways}
 use Rattle.patterns.specs.declared.row.Target.{Target}
 use Rattle.patterns.specs.declared.row.Target.TheVariants as to
 use Rattle.graphs.specs.declared.graph.Length.{Length}
@@ -9,6 +9,7 @@ use Rattle.graphs.specs.declared.graph.Length.TheVariants.{Fixed, Counted}
 use Rattle.graphs.specs.View.{RowsView, ternary_rows, range_rows, NodeView, node_at}
 use Rattle.walks.specs.Rows.{key_width, leads_to}
 use Rattle.walks.specs.Plans.{IsFixed, IsTarget, AllFixed, Linked, lookups, Keeps}
+use Rattle.walks.proofs.Widths.{leads}
 use Rattle.plans.specs.Checking.{is_fixed, any_to, ruled, keeps}
 
 fixed_says : (l : Length) → is_fixed l ≡ true → IsFixed l
@@ -17,11 +18,6 @@ fixed_says (Counted place mask shift unit base) e = absurd (both_ways false refl
 
 fixed_told : (l : Length) → IsFixed l → is_fixed l ≡ true
 fixed_told l h = ap is_fixed h.1
-
-leads_says : (c : ℕ) (t : Target) → leads_to c t ≡ true → t ≡ to.Node c
-leads_says c (to.Node m) e = ap to.Node (sym (eqb-true c m e))
-leads_says c to.Done e = absurd (both_ways false refl e)
-leads_says c to.Dropped e = absurd (both_ways false refl e)
 
 leads_told : (c : ℕ) (t : Target) → t ≡ to.Node c → leads_to c t ≡ true
 leads_told c t e = ap (leads_to c) e ∙ eq-eqb c c refl
@@ -41,9 +37,9 @@ some_told f d (x ∷ xs) (suc k) h e = or_right (f x) (list_any f xs) (some_told
 
 target_says : (c : ℕ) (rows : RowsView) → any_to c rows ≡ true → IsTarget rows c
 target_says c (ternary_rows rs) e =
-    let (k, h, p) = some_says (λ r. leads_to c r.target) (record { value = 0; mask = 0; target = to.Node 0 }) rs e in (k, h, leads_says c _ p)
+    let (k, h, p) = some_says (λ r. leads_to c r.target) (record { value = 0; mask = 0; target = to.Node 0 }) rs e in (k, h, leads c _ p)
 target_says c (range_rows rs) e =
-    let (k, h, p) = some_says (λ r. leads_to c r.target) (record { low = 0; high = 0; target = to.Node 0 }) rs e in (k, h, leads_says c _ p)
+    let (k, h, p) = some_says (λ r. leads_to c r.target) (record { low = 0; high = 0; target = to.Node 0 }) rs e in (k, h, leads c _ p)
 
 target_told : (c : ℕ) (rows : RowsView) → IsTarget rows c → any_to c rows ≡ true
 target_told c (ternary_rows rs) (k, h, p) = some_told (λ r. leads_to c r.target) (record { value = 0; mask = 0; target = to.Node 0 }) rs k h (leads_told c _ p)

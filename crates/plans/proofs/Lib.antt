@@ -1,5 +1,4 @@
 pub mod Rowing
-pub mod Slicing
 pub mod Chaining
 pub mod Summing
 pub mod Windows

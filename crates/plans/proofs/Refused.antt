@@ -5,7 +5,7 @@ use Rattle.std.proofs.lemmas.Bool.{and_parts, and_cases, or_cases, or_parts, cas
 use Rattle.refusals.specs.Searching.{unless, fault_of}
 use Rattle.refusals.specs.Least.{NotAfter, Answers}
 use Rattle.refusals.proofs.Lowest.{Lowest, lowest_like, lowest_or, lowest_of, lowest_unless, lower}
-use Rattle.refusals.proofs.Searching.{or_else_none, holds}
+use Rattle.refusals.proofs.Searching.{option_or_none, holds}
 use Rattle.graphs.specs.View.{NodeView}
 use Rattle.walks.specs.Plans.{Keeps, Lawful}
 use Rattle.plans.specs.declared.chains.Chain.{Chain}
@@ -126,8 +126,8 @@ module _ (g : List NodeView) (bytes : List ℕ) where
   -- no fault: every chain keeps the rules
   pub lawful : plan_fault g bytes ≡ None → Lawful g (chain_in bytes)
   lawful e n h =
-      let rest = (or_else_none (size_fault (length g) bytes) (option_or (chains_fault (length g) bytes) (rules_fault g (chain_in bytes) (length g))) e).1 in
-      let rules = (or_else_none (chains_fault (length g) bytes) (rules_fault g (chain_in bytes) (length g)) rest).1 in
+      let rest = (option_or_none (size_fault (length g) bytes) (option_or (chains_fault (length g) bytes) (rules_fault g (chain_in bytes) (length g))) e).1 in
+      let rules = (option_or_none (chains_fault (length g) bytes) (rules_fault g (chain_in bytes) (length g)) rest).1 in
       keeps_says g n (chain_in bytes n) (holds (λ n. keeps g n (chain_in bytes n)) Rule (length g) n rules h)
 
   -- the answer of a call that tells the first fault

@@ -1,7 +1,8 @@
 -- Chains in memory, and the chains that a plan's bytes say.
-use Rattle.std.specs.Prelude.{ℕ, ◌+◌, ◌*◌, List, [], ◌∷◌, take, slice_index_or}
+use Rattle.std.specs.Prelude.{ℕ, ◌+◌, ◌*◌, Bool, false, List, [], ◌∷◌, take, slice_index_or}
+use Rattle.patterns.specs.declared.row.Target.{Target}
 use Rattle.graph_reader.specs.Records.{at}
-use Rattle.walks.specs.Rows.{Plan}
+use Rattle.walks.specs.Rows.{Plan, leads_to}
 use Rattle.plans.specs.declared.chains.Chain.{Chain}
 use Rattle.plans.specs.declared.chains.Chains.{Chains}
 
@@ -20,3 +21,8 @@ chain_at bytes n = record { count = at bytes (4 * n); nodes = at bytes (4 * n + 
 -- the chain that they say. A byte past the end reads as 0, so past the last node no chain has nodes
 abbrev pub chain_in : List ℕ → Plan
 chain_in bytes n = nodes_of (chain_at bytes n)
+
+-- the target is the chain's next node
+abbrev pub leads_on : List ℕ → Target → Bool
+leads_on [] t = false
+leads_on (c ∷ cs) t = leads_to c t

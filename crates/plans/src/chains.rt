@@ -72,7 +72,7 @@ impl Chains {
         ensures { nodes_of result ≡ chain_of self.now node }
     {
         self.chains
-            .get(node as usize)
+            .get(usize::from(node))
             .copied()
             .unwrap_or(Chain::none())
     }

@@ -6,6 +6,6 @@ pub mod chains;
 pub mod count;
 pub mod fault;
 pub mod nodes;
-mod path;
+pub mod path;
 pub mod read;
 pub mod window;

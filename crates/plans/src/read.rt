@@ -35,7 +35,7 @@ pub fn read_plan(graph: &Graph, bytes: &[u8]) -> Result<Chains, PlanFault>
 fn check_size(count: u8, bytes: &[u8]) -> Result<(), PlanFault>
     ensures { fault_of result ≡ size_fault count bytes.now }
 {
-    if bytes.len() != 4 * count as usize {
+    if bytes.len() != 4 * usize::from(count) {
         return Err(PlanFault::Shape { node: count });
     }
     Ok(())
@@ -46,7 +46,9 @@ impl Chain {
     fn is_right(&self) -> bool
         ensures { result ≡ chain_right self.now }
     {
-        self.nodes.get(self.count as usize..).is_some_and(all_zero)
+        self.nodes
+            .get(usize::from(self.count)..)
+            .is_some_and(all_zero)
     }
 }
 

@@ -45,7 +45,7 @@ fn fixed_size(length: Length) -> u16
     ensures small { result ≤ 255 }
 {
     match length {
-        Length::Fixed(size) => size as u16,
+        Length::Fixed(size) => u16::from(size),
         Length::Counted { .. } => 0,
     }
 }
@@ -55,5 +55,8 @@ fn reach(places: &[u8]) -> u16
     ensures is { result ≡ reach places.now }
     ensures small { result ≤ 256 }
 {
-    places.iter().max().map_or(0, |highest| *highest as u16 + 1)
+    places
+        .iter()
+        .max()
+        .map_or(0, |highest| u16::from(*highest) + 1)
 }

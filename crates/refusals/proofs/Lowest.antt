@@ -47,10 +47,10 @@ module _ {E : Type 0} (order : E → E → Type 0) where
   lowest_unless false x r = ((refl, refl), λ d h. subst (order x) (sym h.0) r)
 
 -- a search whose answer is option_map
-pub lowest_wrapped : {X E : Type 0} (order : E → E → Type 0) (g : X → E) (P : X → Type 0) (o : Option X)
+pub lowest_mapped : {X E : Type 0} (order : E → E → Type 0) (g : X → E) (P : X → Type 0) (o : Option X)
     → Lowest (λ x y. order (g x) (g y)) P o → Lowest order (λ e. (x : X) × (e ≡ g x) × P x) (option_map g o)
-lowest_wrapped order g P None h = λ e w. h w.0 w.2
-lowest_wrapped order g P (Some x) h = ((x, refl, h.0), λ d w. subst (order (g x)) (sym w.1) (h.1 w.0 w.2))
+lowest_mapped order g P None h = λ e w. h w.0 w.2
+lowest_mapped order g P (Some x) h = ((x, refl, h.0), λ d w. subst (order (g x)) (sym w.1) (h.1 w.0 w.2))
 
 -- a lower rank goes first
 pub lower : (a b : Refusal) (m n : ℕ) → rank a ≡ m → rank b ≡ n → m < n → NotAfter a b

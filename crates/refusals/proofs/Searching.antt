@@ -20,16 +20,16 @@ module _ {X : Type 0} (f : ℕ → Option X) (i n : ℕ) {o : Option X} (inv : f
   pub ended : n ≤ i → None ≡ o
   ended h = let e : n - i ≡ 0 = omega arith in sym (ap (first_told f i) e) ∙ inv
 
-pub or_else_none : {X : Type 0} (a b : Option X) → option_or a b ≡ None → (a ≡ None) × (b ≡ None)
-or_else_none None b e = (refl, e)
-or_else_none (Some x) b e = let z : ◌≡◌ {A = ℕ} 0 1 = cc in absurd (omega arith)
+pub option_or_none : {X : Type 0} (a b : Option X) → option_or a b ≡ None → (a ≡ None) × (b ≡ None)
+option_or_none None b e = (refl, e)
+option_or_none (Some x) b e = let z : ◌≡◌ {A = ℕ} 0 1 = cc in absurd (omega arith)
 
 -- no answer at all: none anywhere
 pub nowhere : {X : Type 0} (f : ℕ → Option X) (k i : ℕ) → first_told f i k ≡ None → (j : ℕ) → i ≤ j → j < i + k → f j ≡ None
 nowhere f zero i e j l h = absurd (omega arith)
 nowhere f (suc k) i e j l h = elim (cases_eq j i) [
-  | inl s ↦ rw s (or_else_none (f i) (first_told f (i + 1) k) e).0
-  | inr s ↦ nowhere f k (i + 1) (or_else_none (f i) (first_told f (i + 1) k) e).1 j (omega arith) (omega arith)
+  | inl s ↦ rw s (option_or_none (f i) (first_told f (i + 1) k) e).0
+  | inr s ↦ nowhere f k (i + 1) (option_or_none (f i) (first_told f (i + 1) k) e).1 j (omega arith) (omega arith)
 ]
 
 pub unless_none : {X : Type 0} (b : Bool) (x : X) → unless b x ≡ None → b ≡ true
@@ -40,9 +40,9 @@ unless_none false x e = let z : ◌≡◌ {A = ℕ} 0 1 = cc in absurd (omega ar
 pub holds : {X : Type 0} (test : ℕ → Bool) (say : ℕ → X) (n j : ℕ) → first_told (λ i. unless (test i) (say i)) 0 n ≡ None → j < n → test j ≡ true
 holds test say n j e h = unless_none (test j) (say j) (nowhere (λ i. unless (test i) (say i)) n 0 e j (omega arith) (omega arith))
 
-pub wrapped_none : {X Y : Type 0} (g : X → Y) (o : Option X) → option_map g o ≡ None → o ≡ None
-wrapped_none g None e = refl
-wrapped_none g (Some x) e = let z : ◌≡◌ {A = ℕ} 0 1 = cc in absurd (omega arith)
+pub option_map_none : {X Y : Type 0} (g : X → Y) (o : Option X) → option_map g o ≡ None → o ≡ None
+option_map_none g None e = refl
+option_map_none g (Some x) e = let z : ◌≡◌ {A = ℕ} 0 1 = cc in absurd (omega arith)
 
 -- none anywhere: no answer at all
 pub none_of : {X : Type 0} (f : ℕ → Option X) (k i : ℕ) → ((j : ℕ) → i ≤ j → j < i + k → f j ≡ None) → first_told f i k ≡ None

@@ -3,3 +3,4 @@ pub mod Words
 pub mod Sliced
 pub mod WordLaws
 pub mod BitLaws
+pub mod Piled

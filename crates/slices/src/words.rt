@@ -12,7 +12,7 @@ pub(crate) fn half(state: u8, key: u64, place: usize) -> usize
     ensures below { result < 16 }
 {
     if place < 2 {
-        (state >> (4 * (1 - place))) as usize % 16
+        usize::from(state >> (4 * (1 - place))) % 16
     } else {
         (key >> (4 * (17 - place))) as usize % 16
     }

@@ -1,6 +1,6 @@
 // Every store answers the same questions alike.
-use crate::piles::fresh_pile;
 use crate::rows::{question, row, row_of};
+use slices::pile::fresh_pile;
 use slices::sliced::Sliced;
 use std::process::Abort;
 use std::test::Fail;

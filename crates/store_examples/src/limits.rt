@@ -1,7 +1,7 @@
 // What stores hold and take, up to the last row.
-use crate::piles::fresh_pile;
 use crate::rows::{question_of, row_of};
 use refusals::refusal::{Layer, Refusal};
+use slices::pile::fresh_pile;
 use slices::sliced::Sliced;
 use std::process::Abort;
 use std::test::Fail;

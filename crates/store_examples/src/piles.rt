@@ -1,27 +1,17 @@
 // Filling a listing, a sliced store and a pile of three, each with the meaning after it.
 ghost use Rattle.std.specs.Prelude.{◌≡◌};
-ghost use Rattle.store_examples.specs.Piled.{of_listing, of_sliced, piled};
+ghost use Rattle.slices.specs.Piled.{of_listing, of_sliced, piled};
 ghost use Rattle.stores.specs.Filled.{all_taken, filled};
-ghost use Rattle.stores.specs.Meaning.{fresh};
 
 use crate::rows::row_of;
+use slices::pile::{Pile, fresh_pile};
 use slices::sliced::Sliced;
 use std::test::Fail;
 use stores::fault::StoreFault;
 use stores::fill::fill;
 use stores::listing::Listing;
-use stores::pair::Pair;
 use stores::question::Row;
 use stores::store::Store;
-
-type Pile = Pair<Sliced, Pair<Listing, Sliced>>;
-
-// A pile of three fresh stores is itself as fresh as a store of 640 rows.
-pub(crate) fn fresh_pile() -> Pile
-    ensures { piled result ≡ fresh 640 }
-{
-    Pair::new(Sliced::new(), Pair::new(Listing::new(), Sliced::new()))
-}
 
 // One `fill` fills each of the three. It says what it does by the trait's meaning, these say it in
 // the words of each store.

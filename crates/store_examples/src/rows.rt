@@ -16,9 +16,9 @@ pub(crate) fn question(number: u8, key: u64) -> Result<Question, Fail> {
 
 // The row of state 0 that only its own key fits.
 pub(crate) fn row_of(key: u16) -> Result<Row, Fail> {
-    row(0, key as u64, u64::MAX)
+    row(0, u64::from(key), u64::MAX)
 }
 
 pub(crate) fn question_of(key: u16) -> Result<Question, Fail> {
-    question(0, key as u64)
+    question(0, u64::from(key))
 }

@@ -41,11 +41,11 @@ impl Table<512> for Rows {
     ghost length_rows = { λ t held h. length_listed t.rows held (omega arith) };
 
     fn put(&mut self, held: u16, row: Row) {
-        self.rows[held as usize] = row;
+        self.rows[usize::from(held)] = row;
     }
 
     fn first_fitting(&self, held: u16, question: &Question) -> Option<u16> {
-        first_place(&self.rows[..held as usize], question).map(|place| place as u16)
+        first_place(&self.rows[..usize::from(held)], question).map(|place| place as u16)
     }
 }
 
@@ -54,6 +54,6 @@ impl Tabled<Rows, 512> {
     pub fn rows(&self) -> &[Row]
         ensures { result.now ≡ take self.now.held self.now.table.rows }
     {
-        &self.table.rows[..self.held as usize]
+        &self.table.rows[..usize::from(self.held)]
     }
 }

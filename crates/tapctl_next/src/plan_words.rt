@@ -11,7 +11,7 @@ pub fn plan_of<'a>(heap: Global, graph: &Graph, words: &[&'a str]) -> Result<Vec
     for word in words {
         let no_chain = Failure::NoChain { word: *word };
         let (node, chain) = chain_of_word(word).ok_or(no_chain)?;
-        *chains.get_mut(node as usize).ok_or(no_chain)? = chain;
+        *chains.get_mut(usize::from(node)).ok_or(no_chain)? = chain;
     }
     Ok(bytes)
 }

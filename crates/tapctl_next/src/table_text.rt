@@ -5,10 +5,10 @@ use compiler::program::{CHAIN_BASE, Head, Program};
 use console::failure::Failure;
 use console::graph_text::TargetText;
 use console::hex::Hex;
-use console::store_table::pile;
 use graph_reader::read::read_graph;
 use graphs::graph::Graph;
 use refusals::refusal::Refusal;
+use slices::pile::fresh_pile;
 use slices::sliced::Sliced;
 use std::str::FromStr;
 use std::{fmt, io};
@@ -71,7 +71,7 @@ fn capacity_of(file: &[u8], plan: &[u8], kind: StoreKind) -> Result<u16, LoadFau
     match kind {
         StoreKind::Listing => capacity_in(file, plan, &mut Listing::new()),
         StoreKind::Sliced => capacity_in(file, plan, &mut Sliced::new()),
-        StoreKind::Pile => capacity_in(file, plan, &mut pile()),
+        StoreKind::Pile => capacity_in(file, plan, &mut fresh_pile()),
     }
 }
 
@@ -91,7 +91,7 @@ fn print_row(
     let state = row.state.number();
     let nodes = NodesText(state, program).to_string(rt.alloc())?;
     let nodes = nodes.as_str();
-    let headers = action.beyond as usize + 1;
+    let headers = usize::from(action.beyond) + 1;
     let target = ActionText(action, graph).to_string(rt.alloc())?;
     let target = target.as_str();
     let pattern = PatternText(row.value, row.mask, width_of(program, state));
@@ -100,7 +100,7 @@ fn print_row(
 
 // The head of a node; none past the program's nodes.
 fn head_of(program: &Program, node: u8) -> Option<Head> {
-    program.heads.as_slice().get(node as usize).copied()
+    program.heads.as_slice().get(usize::from(node)).copied()
 }
 
 // How many lookup bytes a node has.

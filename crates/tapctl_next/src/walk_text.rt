@@ -1,6 +1,6 @@
 // A packet's walk as a person reads it.
 use captures::format::{HEADER, is_capture, open};
-use captures::records::next;
+use captures::records::Records;
 use console::failure::Failure;
 use graphs::graph::Graph;
 use headers::kinds::Kind;
@@ -30,15 +30,13 @@ pub fn print_walks<'a>(
         return print_walk(rt, graph, file);
     }
     let format = open(file)?;
-    let mut offset = HEADER;
-    // A record's place is known only from the one before it, and a fault ends the records: so a loop.
     // Counted by hand: a cut record ends the reading at once, and the count is told after the last.
     let mut count: usize = 0;
-    while let Some(record) = next(file, format, offset)? {
-        let length = record.packet.len();
+    for record in Records::new(file, format, HEADER) {
+        let packet = record?.packet;
+        let length = packet.len();
         println!(rt; "packet {count}: {length} bytes")?;
-        print_or_refuse(rt, graph, record.packet)?;
-        offset = record.entry.next;
+        print_or_refuse(rt, graph, packet)?;
         count = count.saturating_add(1);
     }
     println!(rt; "{count} packets")?;

@@ -4,7 +4,7 @@ use Rattle.std.proofs.Common.{◌≡◌, ℕ, ◌≤◌, false, leb, ◌⊎◌, 
 use Rattle.std.proofs.lemmas.Bool.{cases_lt, leb-false, lt-leb}
 use Rattle.refusals.specs.Searching.{unless}
 use Rattle.refusals.specs.Least.{rank, NotAfter, Least}
-use Rattle.refusals.proofs.Lowest.{Lowest, lowest_like, lowest_or, lowest_unless, lowest_wrapped}
+use Rattle.refusals.proofs.Lowest.{Lowest, lowest_like, lowest_or, lowest_unless, lowest_mapped}
 use Rattle.headers.specs.declared.kinds.Kind.{Kind}
 use Rattle.graphs.specs.declared.fault.GraphFault.{GraphFault}
 use Rattle.graphs.specs.View.{NodeView}
@@ -52,7 +52,7 @@ module _ (minimum : Kind → ℕ) (g : List NodeView) (size room : ℕ) where
         | inr w ↦ inl (omega (arith, ap (λ x. rank (of_walk x)) p.1, graph_ranks p.0, ap (λ x. rank (of_walk x)) w.0))
       ])
       (option_map Graph (graph_fault minimum g)) (option_or (unless (leb size 9600) LongPacket) (unless (leb 32 room) FewMarks))
-      (lowest_wrapped order Graph (GraphApplies minimum g) (graph_fault minimum g) (graph_lowest minimum g))
+      (lowest_mapped order Graph (GraphApplies minimum g) (graph_fault minimum g) (graph_lowest minimum g))
       (lowest_or order OfPacket OfMarks
       (λ e d p q. inl (omega (arith, ap (λ x. rank (of_walk x)) p.0, ap (λ x. rank (of_walk x)) q.0)))
       (unless (leb size 9600) LongPacket) (unless (leb 32 room) FewMarks)

@@ -24,7 +24,7 @@ impl<'a> HeaderAt<'a> {
     pub fn byte(&self, place: u8) -> u8
         ensures { result ≡ byte_at self.now.packet.now (self.now.at + place) }
     {
-        byte_at(self.packet, self.at as usize + place as usize)
+        byte_at(self.packet, self.at as usize + usize::from(place))
     }
 
     /// The header's length by a length rule. Nothing is refused: a byte past the packet's end
@@ -34,14 +34,15 @@ impl<'a> HeaderAt<'a> {
         ensures small { result ≤ 65280 }
     {
         match length {
-            Length::Fixed(size) => size as u32,
+            Length::Fixed(size) => u32::from(size),
             Length::Counted {
                 place,
                 mask,
                 shift,
                 unit,
                 base,
-            } => base as u32 + unit as u32 * shifted(self.byte(place) & mask, shift) as u32,
+            } => u32::from(base)
+                + u32::from(unit) * u32::from(shifted(self.byte(place) & mask, shift)),
         }
     }
 
@@ -56,7 +57,7 @@ impl<'a> HeaderAt<'a> {
     fn has(&self, place: u8) -> bool
         ensures { result ≡ nat_lt (self.now.at + place) (length self.now.packet.now) }
     {
-        self.at as usize + (place as usize) < self.packet.len()
+        self.at as usize + usize::from(place) < self.packet.len()
     }
 
     // Whether all bytes that the header is read by lie in the packet.
@@ -87,7 +88,7 @@ impl<'a> HeaderAt<'a> {
             return Err(Ending::Cut);
         }
         let size = self.measure(length);
-        if size < minimum as u32 {
+        if size < u32::from(minimum) {
             return Err(Ending::Short);
         }
         if self.at as usize + size as usize > self.packet.len() {
@@ -121,5 +122,5 @@ impl<'a> HeaderAt<'a> {
 fn shifted(byte: u8, shift: u8) -> u8
     ensures { result ≡ byte / 2 ^ shift }
 {
-    byte.checked_shr(shift as u32).unwrap_or(0)
+    byte.checked_shr(u32::from(shift)).unwrap_or(0)
 }

@@ -8,7 +8,7 @@ use Rattle.std.proofs.lemmas.List.{length-take-le}
 use Rattle.std.proofs.lemmas.Bool.{and_parts, and_from, leb-true, ltb-true, lt-ltb, le-ltb, eqb-true, eq-eqb, cond-true, cond-false, cond_both}
 use Rattle.std.proofs.lemmas.Bool.Decides.{nat_tests}
 use Rattle.refusals.specs.Searching.{unless_fault}
-use Rattle.refusals.proofs.Searching.{or_else_none, wrapped_none, unless_none, nowhere, holds}
+use Rattle.refusals.proofs.Searching.{option_or_none, option_map_none, unless_none, nowhere, holds}
 use Rattle.headers.specs.declared.kinds.Kind.{Kind}
 use Rattle.patterns.specs.declared.row.Target.{Target}
 use Rattle.patterns.specs.declared.row.Target.TheVariants as to
@@ -25,7 +25,7 @@ use Rattle.graph_reader.specs.Files.{shape_right, shape_fault, record_at, pair_f
 use Rattle.graph_reader.specs.Decoding.{ternary_in, range_in, rows_in, places_in, node_in, nodes_in}
 use Rattle.graph_reader.specs.Reading.{read_fault}
 use Rattle.graph_reader.proofs.Pairing.{Shaped, shape_says}
-use Rattle.graph_reader.proofs.Recorded.{Whole, record_whole, row_right_lem}
+use Rattle.graph_reader.proofs.Recorded.{Whole, record_whole, row_bytes_right}
 use Rattle.graph_reader.proofs.Filed.{record_byte}
 use Rattle.graph_reader.proofs.Refused.{clear}
 use Rattle.walks.specs.Bytes.{filled, spelled}
@@ -68,9 +68,6 @@ free_cell : (v m : ℕ) → v ≡ 0 → m ≡ 0 → cell v m ≡ free
 free_cell v m p q = ap₂ cell p q
 
 module _ (r : List ℕ) (byte : (i : ℕ) → at r i < 256) (whole : Whole r) where
-  row_at : (k : ℕ) → k < at r 14 → (j : ℕ) → j < 10 → row_right r (16 + 10 * k) j ≡ true
-  row_at k h j l = row_right_lem r k j l (whole.each (16 + 10 * k + j) (omega (arith, whole.counted)))
-
   module _ (o : ℕ) (row : (j : ℕ) → j < 10 → row_right r o j ≡ true) where
     module _ (sort : eqb (at r 13) 0 ≡ true) where
       -- the tests of value and mask
@@ -112,9 +109,6 @@ module _ (r : List ℕ) (byte : (i : ℕ) → at r i < 256) (whole : Whole r) wh
           (and_from _ _ (value_inside (at r 8) 2 (v 2) (m 2) (value_right 2 (omega arith)))
           (and_from _ _ (value_inside (at r 8) 3 (v 3) (m 3) (value_right 3 (omega arith))) refl)))
 
-      free_at : (j : ℕ) → j < 4 → v j ≡ 0 → m j ≡ 0 → cell (v j) (m j) ≡ free
-      free_at j h p q = free_cell (v j) (m j) p q
-
       ternary_sound : SoundTernary (at r 8) (ternary_in r o)
       ternary_sound = record {
         ok = and_from _ _ inside (lt-ltb (at4 r (o + 4)) (2 ^ 32) (omega (arith, byte (o + 4), byte (o + 4 + 1), byte (o + 4 + 2), byte (o + 4 + 3))));
@@ -147,8 +141,8 @@ module _ (r : List ℕ) (byte : (i : ℕ) → at r i < 256) (whole : Whole r) wh
   rows_sound : SoundRows (length (places_in r)) (rows_in r)
   rows_sound =
       rw places_long (cond_both (eqb (at r 13) 0) _ _ (SoundRows (at r 8))
-      (λ s. all_counting _ (λ k. ternary_in r (16 + 10 * k)) (at r 14) 0 (λ k l u. ternary_sound (16 + 10 * k) (row_at k (omega arith)) s))
-      (λ s. (two_places s, all_counting _ (λ k. range_in r (16 + 10 * k)) (at r 14) 0 (λ k l u. range_sound (16 + 10 * k) (row_at k (omega arith)) s))))
+      (λ s. all_counting _ (λ k. ternary_in r (16 + 10 * k)) (at r 14) 0 (λ k l u. ternary_sound (16 + 10 * k) (row_bytes_right r whole k (omega arith)) s))
+      (λ s. (two_places s, all_counting _ (λ k. range_in r (16 + 10 * k)) (at r 14) 0 (λ k l u. range_sound (16 + 10 * k) (row_bytes_right r whole k (omega arith)) s))))
 
 -- Targets and lengths
 
@@ -162,12 +156,12 @@ module _ (minimum : Kind → ℕ) (vs : List NodeView) (clean : graph_fault mini
   nodes_clear f e n h = nowhere (node_fault f vs) (length vs) 0 e n (omega arith) (omega arith)
 
   no_target : first_node (target_fault (length vs)) vs ≡ None
-  no_target = (or_else_none (first_node (target_fault (length vs)) vs) (option_or (first_node covered_fault vs) (first_node (short_fault minimum) vs)) clean).0
+  no_target = (option_or_none (first_node (target_fault (length vs)) vs) (option_or (first_node covered_fault vs) (first_node (short_fault minimum) vs)) clean).0
 
   no_short : first_node (short_fault minimum) vs ≡ None
   no_short =
-      (or_else_none (first_node covered_fault vs) (first_node (short_fault minimum) vs)
-      (or_else_none (first_node (target_fault (length vs)) vs) (option_or (first_node covered_fault vs) (first_node (short_fault minimum) vs)) clean).1).1
+      (option_or_none (first_node covered_fault vs) (first_node (short_fault minimum) vs)
+      (option_or_none (first_node (target_fault (length vs)) vs) (option_or (first_node covered_fault vs) (first_node (short_fault minimum) vs)) clean).1).1
 
   pub targets_onward : (n : ℕ) → n < length vs → (k : ℕ) → k < row_count (node_at vs n).rows → Onward (length vs) n (target_of (node_at vs n).rows k)
   targets_onward n h k l =
@@ -189,7 +183,7 @@ module _ (minimum : Kind → ℕ) (f : List ℕ) (byte : (i : ℕ) → at f i < 
   shaped = shape_says f (unless_none (shape_right f) Shape parts.0)
 
   graph_clear : graph_fault minimum (nodes_in f) ≡ None
-  graph_clear = wrapped_none Graph (graph_fault minimum (nodes_in f)) (or_else_none (option_map File (file_fault f)) (option_map Graph (graph_fault minimum (nodes_in f))) clean).1
+  graph_clear = option_map_none Graph (graph_fault minimum (nodes_in f)) (option_or_none (option_map File (file_fault f)) (option_map Graph (graph_fault minimum (nodes_in f))) clean).1
 
   count_is : length (nodes_in f) ≡ at f 0
   count_is = length-map-range_with_len (λ i. node_in (record_at f i)) 0 (at f 0)

@@ -19,9 +19,9 @@ cond_over : {Y : Type 0} (b : Bool) (y : Y) (o e : Option Y) → cond b (Some y)
 cond_over true y o e = refl
 cond_over false y o e = refl
 
-pub or_else_none : {Y : Type 0} (o : Option Y) → option_or o None ≡ o
-or_else_none None = refl
-or_else_none (Some y) = refl
+pub or_none : {Y : Type 0} (o : Option Y) → option_or o None ≡ o
+or_none None = refl
+or_none (Some y) = refl
 
 module _ {X Y : Type 0} (fits : X → Bool) (give : X → Y) where
   pub fit_append : (xs ys : List X) → first_fit fits give (xs ++ ys) ≡ option_or (first_fit fits give xs) (first_fit fits give ys)

@@ -11,7 +11,7 @@ use Rattle.walks.specs.declared.action.Action.{Action}
 use Rattle.walks.specs.Bytes.{spelled_in}
 use Rattle.walks.specs.Rows.{Plan, key_width, chain_base, Entry, entries, chain_entries, StoreRow, store_row, node_rows, chain_rows, store_rows, question, answer_by}
 use Rattle.walks.proofs.Spelling.{Bytes, Small, values, masks, fits_cells, fits_filled}
-use Rattle.walks.proofs.Fit.{first_fit, fit_append, fit_map, fit_like, or_else_none, answer_fits}
+use Rattle.walks.proofs.Fit.{first_fit, fit_append, fit_map, fit_like, or_none, answer_fits}
 use Rattle.walks.proofs.Join.{answer_to}
 
 -- what rows say to a question
@@ -44,7 +44,7 @@ module _ (f : ℕ → ℕ) (h : ℕ → List Entry) (q : Question) where
   own_only n (suc c) a l u inj =
       say_append q (rows a) (flat_map rows (range_with_len (a + 1) c))
       ∙ ⊎_elim
-      (λ (e : a ≡ n). ap (option_or (say q (rows a))) (others_none c (a + 1) (λ j l' u' same. let z = inj j (omega arith) same in omega arith)) ∙ or_else_none _ ∙ rw e)
+      (λ (e : a ≡ n). ap (option_or (say q (rows a))) (others_none c (a + 1) (λ j l' u' same. let z = inj j (omega arith) same in omega arith)) ∙ or_none _ ∙ rw e)
       (λ (d : a ≡ n → ⊥). ap (λ o. option_or o (say q (flat_map rows (range_with_len (a + 1) c)))) (say_other q (f a) (λ same. d (sym (inj a (omega arith) same))) (h a)) ∙ own_only n c (a + 1) (omega arith) (omega arith) (λ j u' same. inj j (omega arith) same))
       (cases_eq a n)
 
@@ -59,7 +59,7 @@ module _ (g : List NodeView) (few : length g ≤ chain_base) (chain : Plan) (n :
   say_node s =
       say_append q plainly chainly
       ∙ ap (option_or (say q plainly)) (others_none (λ i. chain_base + i) (λ i. chain_entries g i (chain i)) q (length g) 0 (λ j l u e. omega arith))
-      ∙ or_else_none _
+      ∙ or_none _
       ∙ own_only (λ i. i) (λ i. entries g i []) q n (length g) 0 (omega arith) (omega arith) (λ j u e. omega arith)
 
   say_chain : q.state.number ≡ chain_base + n → say q (store_rows g chain) ≡ say q (chain_rows g chain n)

@@ -1,4 +1,4 @@
-use Rattle.std.proofs.Common.{◌≡◌, Err, MatchResult, ◌∙◌, subst, arith, rules}
+use Rattle.std.proofs.Common.{◌≡◌, Err, MatchResult, subst, arith, rules}
 use Rattle.captures.specs.declared.fault.CaptureFault.TheVariants.{NotCapture}
 use Rattle.captures.specs.Formats.{Opens, Refused}
 use Rattle.captures.proofs.Magic.{opens_says, refused_says}

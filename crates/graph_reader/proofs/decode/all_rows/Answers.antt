@@ -1,4 +1,4 @@
-use Rattle.std.proofs.Common.{◌+◌, ◌*◌, ap₂, ◌∙◌, rules}
+use Rattle.std.proofs.Common.{◌+◌, ◌*◌, rules}
 use Rattle.graph_reader.proofs.Filling.{filled_by}
 use Rattle.graph_reader.proofs.decode.all_rows.Goals as goal
 

@@ -1,4 +1,4 @@
-use Rattle.std.proofs.Common.{◌≡◌, ◌<◌, ◌++◌, List, map, length, get_or, take, sym, ap, ◌∙◌, subst, arith, length-set}
+use Rattle.std.proofs.Common.{◌≡◌, ◌<◌, ◌++◌, List, map, length, get_or, take, sym, ap, ap₂, ◌∙◌, subst, arith, length-set}
 use Rattle.std.specs.List.{range_with_len}
 use Rattle.std.proofs.lemmas.List.{take_at, take_all}
 use Rattle.graph_reader.specs.declared.fault.FileFault.TheVariants.{Pair}
@@ -12,12 +12,12 @@ use Rattle.graph_reader.proofs.Filling.{shown_more, each_more}
 use Rattle.graph_reader.proofs.Recorded.{Whole, record_whole}
 use Rattle.graph_reader.proofs.decode.graph_in.Goals as goal
 
-pub record_of-requires : goal.record_of-requires
-record_of-requires c = holds (pair_right c.args.file.now) Pair _ _ c.requires.pairs (omega (arith, c.loop-i.invariant.0))
+pub record-requires : goal.record-requires
+record-requires c = ap₂ pair_right c.of.ensures.file c.of.ensures.node ∙ holds (pair_right c.args.file.now) Pair _ _ c.requires.pairs (omega (arith, c.loop-i.invariant.0))
 
 pub node_in-requires : goal.node_in-requires
 node_in-requires c =
-    let w : Whole c.record_of.result.now = subst Whole (sym c.record_of.ensures.is) (record_whole c.args.file.now c.loop-i.i c.requires.pairs c.requires.bytes (omega (arith, c.loop-i.invariant.0))) in
+    let w : Whole c.record.result.now = subst Whole (sym (c.record.ensures.is ∙ ap₂ record_at c.of.ensures.file c.of.ensures.node)) (record_whole c.args.file.now c.loop-i.i c.requires.pairs c.requires.bytes (omega (arith, c.loop-i.invariant.0))) in
     record { long = omega (arith, w.counted); rows = w.few; places = w.places }
 
 pub loop-i-preserved : goal.loop-i-preserved
@@ -25,7 +25,7 @@ loop-i-preserved c =
     let nodes = c.loop-i.node-items in
     let l : c.loop-i.i < length nodes = omega arith in (
       length-set _ _ _ ∙ c.loop-i.invariant.0,
-      shown_more node_view (λ i. node_in (record_at c.args.file.now i)) nodes c.loop-i.i _ l (c.node_in.ensures.is ∙ ap node_in c.record_of.ensures.is) c.loop-i.invariant.1,
+      shown_more node_view (λ i. node_in (record_at c.args.file.now i)) nodes c.loop-i.i _ l (c.node_in.ensures.is ∙ ap node_in (c.record.ensures.is ∙ ap₂ record_at c.of.ensures.file c.of.ensures.node)) c.loop-i.invariant.1,
       each_more NodeCounts nodes c.loop-i.i _ no_node l c.node_in.ensures.counts c.loop-i.invariant.2,
     )
 

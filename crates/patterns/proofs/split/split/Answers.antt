@@ -8,7 +8,7 @@ use Rattle.patterns.proofs.split.split.Goals as goal
 
 pub bounds-out-n : goal.bounds-out-n
 bounds-out-n c =
-    omega (arith, room c.loop-low.out c.loop-low.n c.loop-low.low c.args.span.now.high c.args.span.now.low c.loop-low.invariant.0 (omega (arith, c.loop-low.invariant.2, c.loop-low.invariant.3)) (omega arith) c.loop-low-test.true)
+    omega (arith, room c.loop-low.out c.loop-low.n c.loop-low.low c.args.span.now.high c.args.span.now.low c.loop-low.invariant.0 (omega (arith, c.loop-low.invariant.2, c.loop-low.invariant.3)) (omega arith) (omega arith))
 
 pub loop-low-preserved : goal.loop-low-preserved
 loop-low-preserved c =
@@ -19,10 +19,10 @@ loop-low-preserved c =
     let low = c.loop-low.low in
     let wide : high < 2 ^ 16 = omega arith in
     let long : length out ≡ 30 = c.loop-low.invariant.3 in
-    let r : n < 30 = room out n low high from c.loop-low.invariant.0 (omega (arith, c.loop-low.invariant.2)) wide c.loop-low-test.true in
+    let r : n < 30 = room out n low high from c.loop-low.invariant.0 (omega (arith, c.loop-low.invariant.2)) wide (omega arith) in
     let i : n < length out = omega arith in
     let b = c.block_at.result in (
-      write out n low high from c.loop-low.invariant.0 c.step-count.result b c.step-count.ensures.is c.block_at.ensures c.loop-low-test.true i,
+      write out n low high from c.loop-low.invariant.0 c.step-count.result b c.step-count.ensures.is c.block_at.ensures (omega arith) i,
       drop_next out c.args.out.now n b c.loop-low.invariant.1,
       omega arith,
       simp length-set long,
@@ -37,7 +37,7 @@ returns c =
     let wide : high < 2 ^ 16 = omega arith in
     let long : length out ≡ 30 = c.loop-low.invariant.3 in
     let held : length (take n out) ≡ n = length-take-le n out (omega (arith, c.loop-low.invariant.2)) in
-    let all : take n out ≡ split_of low high = done out n c.loop-low.low high low c.loop-low.invariant.0 c.loop-low-test.false in
+    let all : take n out ≡ split_of low high = done out n c.loop-low.low high low c.loop-low.invariant.0 (omega arith) in
     record {
       count = sym held ∙ ap length all;
       written = sym (take-append-drop n out) ∙ ap₂ ◌++◌ all c.loop-low.invariant.1;

@@ -14,10 +14,10 @@ some_state n o state e h = rw e at h
 
 pub emit-requires : goal.emit-requires
 emit-requires g c =
-    let es = entries (graph_view c.args.graph.now) c.args.node c.args.chain.now in
+    let es = entries (graph_view c.args.path.now.graph.now) c.args.path.now.node c.args.path.now.behind.now in
     let p = c.new-2.ensures in
     record {
-      ready = record { values = omega (arith, ap length p.value, c.requires.short); masks = omega (arith, ap length p.mask, c.requires.short); beyond = omega (arith, p.beyond, c.requires.short) };
+      ready = record { bytes = omega (arith, ap length p.bytes, c.requires.short); beyond = omega (arith, p.beyond, c.requires.short) };
       room = room_like _ (map (store_row c.args.number) es) es (length-map es (store_row c.args.number)) c.requires.room;
     }
 
@@ -32,6 +32,6 @@ returns-clause-filled g c =
       actions = e.actions;
       after =
           e.after
-          ∙ ap (sunk s) (lines_stored c.new-2.result c.args.number c.requires.number (ap (λ x. x.number) p.state ∙ state) p.value p.mask p.beyond
-          (entries (graph_view c.args.graph.now) c.args.node c.args.chain.now));
+          ∙ ap (sunk s) (lines_stored c.new-2.result c.args.number c.requires.number (ap (λ x. x.number) p.state ∙ state) p.bytes p.beyond
+          (entries (graph_view c.args.path.now.graph.now) c.args.path.now.node c.args.path.now.behind.now));
     }

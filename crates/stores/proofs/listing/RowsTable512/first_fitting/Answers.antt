@@ -1,4 +1,5 @@
-use Rattle.std.proofs.Common.{◌≡◌, take, ◌∙◌, rules}
+use Rattle.std.proofs.Common.{◌≡◌, position, take, ap, ◌∙◌, rules}
+use Rattle.stores.specs.Fits.{fits}
 use Rattle.stores.specs.Answering.{answer_position}
 use Rattle.stores.proofs.listing.RowsTable512.first_fitting.Goals as goal
 
@@ -6,4 +7,4 @@ use Rattle.stores.proofs.listing.RowsTable512.first_fitting.Goals as goal
 pub returns : goal.returns
 returns c =
     let told : c.map.result ≡ c.first_place.result = search rules in
-    told ∙ c.first_place.ensures ∙ answer_position c.args.question.now (take c.args.held c.args.self.now.rows)
+    told ∙ c.first_place.ensures ∙ ap (λ held. position (λ r. fits r c.args.question.now) (take held c.args.self.now.rows)) c.from.ensures ∙ answer_position c.args.question.now (take c.args.held c.args.self.now.rows)

@@ -1,8 +1,8 @@
 use Rattle.std.proofs.Common.{ap, ◌∙◌}
 use Rattle.stores.specs.Meaning.{fresh}
 use Rattle.stores.specs.Paired.{paired}
-use Rattle.store_examples.specs.Piled.{of_sliced, of_pair}
-use Rattle.store_examples.proofs.piles.fresh_pile.Goals as goal
+use Rattle.slices.specs.Piled.{of_sliced, of_pair}
+use Rattle.slices.proofs.pile.fresh_pile.Goals as goal
 
 pub returns : goal.returns
 returns c =
