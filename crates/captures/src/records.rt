@@ -71,6 +71,8 @@ impl<'a> Iterator for Records<'a> {
     }
 }
 
+// A file, its format and an offset are `Records` to who goes over the records; a call for one record takes them apart.
+
 /// The record that begins at the offset; `Ok(None)` at the file's end.
 /// Refused, with the offset, if the record's header or its packet is cut; so is any offset behind the file's end.
 pub fn next<'a>(

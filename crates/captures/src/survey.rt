@@ -16,6 +16,7 @@ pub struct Survey {
 pub fn count_records(file: &[u8], format: Format, from: usize) -> Survey
     ensures { Surveyed format file.now from result }
 {
+    // Counted by hand: a cut record ends the counting at once, and its fault is told with the count.
     let mut records = 0;
     for record in Records::new(file, format, from) {
         if let Err(fault) = record {

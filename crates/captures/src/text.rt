@@ -2,6 +2,7 @@
 use crate::fault::CaptureFault;
 use std::fmt;
 
+// By hand: a `write!` for each case is as plain as a derive of another crate's.
 impl fmt::Display for CaptureFault {
     fn fmt<W: fmt::Write>(&self, f: &mut fmt::Formatter<W>) -> fmt::Result {
         match self {

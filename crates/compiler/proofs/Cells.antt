@@ -14,7 +14,7 @@ use Rattle.walks.specs.Rows as rows
 use Rattle.walks.specs.Rows.{Cell, free, cells_of, ternary_piece, block_piece, range_pieces, pieces}
 use Rattle.compiler.specs.declared.cursor.Cursor.{Cursor}
 use Rattle.compiler.specs.Held.{held}
-use Rattle.compiler.specs.Pieces.{piece_at, block_as, range_as, left}
+use Rattle.compiler.specs.Pieces.{block_as, range_as, left}
 
 -- the bytes of value and mask, the topmost first
 abbrev cell : ℕ → ℕ → Cell
@@ -48,7 +48,7 @@ filled_free (suc zero) [] = refl
 filled_free (suc (suc w)) [] = refl
 filled_free (suc w) (x ∷ xs) = ap (λ ys. x ∷ ys) (filled_free w xs)
 
-pub block_piece_lem : (w : ℕ) (t : Target) (b : Block) → block_piece w t b ≡ piece_at w (block_as t b)
+pub block_piece_lem : (w : ℕ) (t : Target) (b : Block) → block_piece w t b ≡ ternary_piece w (block_as t b)
 block_piece_lem w t b =
     ap (λ cs. rows.piece cs t) (sym (ap (filled free w) (cells_block b.value b.mask) ∙ filled_free w (cells_of 2 b.value b.mask)))
 
@@ -58,23 +58,23 @@ filled_front zero xs h = refl
 filled_front (suc w) [] h = absurd (omega arith)
 filled_front (suc w) (x ∷ xs) h = ap (λ ys. x ∷ ys) (filled_front w xs (omega arith))
 
-pub piece_front : (w : ℕ) (q : TernaryRow) → w ≤ 4 → take w (cells_of 4 q.value q.mask) ≡ (piece_at w q).cells
+pub piece_front : (w : ℕ) (q : TernaryRow) → w ≤ 4 → take w (cells_of 4 q.value q.mask) ≡ (ternary_piece w q).cells
 unfolding cells_of
 piece_front w q h = filled_front w (cells_of 4 q.value q.mask) h
 
 -- the pieces of a node are what a new cursor leaves of its rows
-block_pieces : (w : ℕ) (t : Target) (bs : List Block) → map (block_piece w t) bs ≡ map (piece_at w) (map (block_as t) bs)
+block_pieces : (w : ℕ) (t : Target) (bs : List Block) → map (block_piece w t) bs ≡ map (ternary_piece w) (map (block_as t) bs)
 block_pieces w t [] = refl
 block_pieces w t (b ∷ bs) = ap₂ (λ p ps. p ∷ ps) (block_piece_lem w t b) (block_pieces w t bs)
 
-range_pieces_lem : (w : ℕ) (rs : List RangeRow) → flat_map (range_pieces w) rs ≡ map (piece_at w) (flat_map range_as rs)
+range_pieces_lem : (w : ℕ) (rs : List RangeRow) → flat_map (range_pieces w) rs ≡ map (ternary_piece w) (flat_map range_as rs)
 range_pieces_lem w [] = refl
 range_pieces_lem w (r ∷ rs) =
     ap₂ (λ xs ys. xs ++ ys) (block_pieces w r.target (split_of r.low r.high)) (range_pieces_lem w rs)
-    ∙ sym (map-append (piece_at w) (range_as r) (flat_map range_as rs))
+    ∙ sym (map-append (ternary_piece w) (range_as r) (flat_map range_as rs))
 
-pub pieces_left : (w : ℕ) (rows : RowsView) (k : Cursor) → k.row ≡ 0 → held k.blocks ≡ [] → pieces w rows ≡ map (piece_at w) (left rows k)
+pub pieces_left : (w : ℕ) (rows : RowsView) (k : Cursor) → k.row ≡ 0 → held k.blocks ≡ [] → pieces w rows ≡ map (ternary_piece w) (left rows k)
 pieces_left w (ternary_rows rs) k r n = ap (λ i. map (ternary_piece w) (drop i rs)) (sym r)
 pieces_left w (range_rows rs) k r n =
-    range_pieces_lem w rs ∙ ap (λ i. map (piece_at w) (flat_map range_as (drop i rs))) (sym r)
-    ∙ ap (λ bs. map (piece_at w) (map (block_as k.target) bs ++ flat_map range_as (drop k.row rs))) (sym (drop_all k.next (held k.blocks) (omega (arith, ap length n))))
+    range_pieces_lem w rs ∙ ap (λ i. map (ternary_piece w) (flat_map range_as (drop i rs))) (sym r)
+    ∙ ap (λ bs. map (ternary_piece w) (map (block_as k.target) bs ++ flat_map range_as (drop k.row rs))) (sym (drop_all k.next (held k.blocks) (omega (arith, ap length n))))

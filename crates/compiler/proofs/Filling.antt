@@ -4,7 +4,7 @@ use Rattle.std.specs.List.{range_with_len, flat_map}
 use Rattle.std.proofs.lemmas.List.{map-append}
 use Rattle.graphs.specs.declared.graph.Graph.{Graph}
 use Rattle.graphs.specs.View.{NodeView, graph_view}
-use Rattle.walks.specs.Rows.{Cell, Entry, Plan, StoreRow, store_row, action, entries, chain_entries, chain_rows}
+use Rattle.walks.specs.Rows.{chain_base, Cell, Entry, Plan, StoreRow, store_row, action, entries, chain_entries, chain_rows}
 use Rattle.plans.specs.declared.path.Path.{Path}
 use Rattle.compiler.specs.declared.start.Start.{Start}
 use Rattle.compiler.specs.Held.{held}
@@ -41,14 +41,14 @@ path_rows s path g eg en ec =
 -- the rows of a node with its chain: none where there is no chain
 module _ (g : List NodeView) (chain : Plan) (n : ℕ) (cs : List ℕ) (same : cs ≡ chain n) where
   pub chain_none : length cs ≡ 0 → chain_rows g chain n ≡ []
-  chain_none h = ap (λ xs. map (store_row (32 + n)) (chain_entries g n xs)) (sym same) ∙ ap (map (store_row (32 + n))) (go cs h)
+  chain_none h = ap (λ xs. map (store_row (chain_base + n)) (chain_entries g n xs)) (sym same) ∙ ap (map (store_row (chain_base + n))) (go cs h)
     where
       go : (cs : List ℕ) → length cs ≡ 0 → chain_entries g n cs ≡ []
       go [] e = refl
       go (c ∷ cs) e = absurd (omega arith)
 
-  pub chain_some : (length cs ≡ 0 → ⊥) → chain_rows g chain n ≡ map (store_row (32 + n)) (entries g n cs)
-  chain_some h = ap (λ xs. map (store_row (32 + n)) (chain_entries g n xs)) (sym same) ∙ ap (map (store_row (32 + n))) (go cs h)
+  pub chain_some : (length cs ≡ 0 → ⊥) → chain_rows g chain n ≡ map (store_row (chain_base + n)) (entries g n cs)
+  chain_some h = ap (λ xs. map (store_row (chain_base + n)) (chain_entries g n xs)) (sym same) ∙ ap (map (store_row (chain_base + n))) (go cs h)
     where
       go : (cs : List ℕ) → (length cs ≡ 0 → ⊥) → chain_entries g n cs ≡ entries g n cs
       go [] h = absurd (h refl)

@@ -6,13 +6,13 @@ use Rattle.patterns.specs.declared.row.Target.{Target}
 use Rattle.patterns.specs.declared.row.TernaryRow.{TernaryRow}
 use Rattle.graphs.specs.View.{NodeView, node_view, node_at, graph_view}
 use Rattle.walks.specs.Rows as rows
-use Rattle.walks.specs.Rows.{Cell, free, cells_of, Entry, action, alone, join, closing, leads_to, expand, entries, pieces, pieces_at}
+use Rattle.walks.specs.Rows.{Cell, free, cells_of, ternary_piece, Entry, action, alone, join, closing, leads_to, expand, entries, pieces, pieces_at}
 use Rattle.walks.proofs.Spelling.{length_filled}
 use Rattle.plans.specs.declared.path.Path.{Path}
 use Rattle.plans.specs.Chains.{leads_on}
 use Rattle.compiler.specs.declared.cursor.Cursor.{Cursor}
 use Rattle.compiler.specs.declared.start.Start.{Start}
-use Rattle.compiler.specs.Pieces.{piece_at, left_in}
+use Rattle.compiler.specs.Pieces.{left_in}
 use Rattle.compiler.specs.Held.{held}
 use Rattle.compiler.specs.Sinks.{Line, Sink, fits_by, cell_of, cells_in, line_as, line_with, Ready, Longer}
 use Rattle.compiler.proofs.Cells.{pieces_left}
@@ -33,7 +33,7 @@ entries_stand g n (c ∷ cs) = refl
 
 -- the rows of a node and a chain, from the node's pieces
 pub rows_from : List NodeView → List ℕ → Start → ℕ → List TernaryRow → List Line
-rows_from g cs p w ps = map (line_as p) (flat_map (stands g cs) (map (piece_at w) ps))
+rows_from g cs p w ps = map (line_as p) (flat_map (stands g cs) (map (ternary_piece w) ps))
 
 pub rows_begin : (g : List NodeView) (n : ℕ) (cs : List ℕ) (p : Start) (w : ℕ) (k : Cursor) → node_view k.node.now ≡ node_at g n → w ≡ length (node_view k.node.now).places → k.row ≡ 0 → held k.blocks ≡ []
     → rows_from g cs p w (left_in k) ≡ map (line_as p) (entries g n cs)
@@ -53,7 +53,7 @@ longer_passed {p} {l} {r} {w} {q} h e = subst (λ r. Longer p r w q 1) (sym e) (
 pub ready_on : {cs rest : List ℕ} {p r : Start} {w : ℕ} {q : TernaryRow} {next : ℕ} → cs ≡ next ∷ rest → Ready cs p → w ≤ 4 → Longer p r w q 1 → Ready rest r
 ready_on {cs} {rest} {p} {r} {w} {q} e h narrow l =
     let cells : length (held r.bytes) ≡ length (held p.bytes) + w =
-    omega (arith, ap length l.cells, length-map (held r.bytes) cell_of, length-map (held p.bytes) cell_of, length-append (cells_in p) (piece_at w q).cells, length_filled free w (cells_of 4 q.value q.mask)) in
+    omega (arith, ap length l.cells, length-map (held r.bytes) cell_of, length-map (held p.bytes) cell_of, length-append (cells_in p) (ternary_piece w q).cells, length_filled free w (cells_of 4 q.value q.mask)) in
     let shorter = ap length e in
     record { bytes = omega (arith, h.bytes); beyond = omega (arith, h.beyond, l.beyond) }
 
@@ -62,19 +62,19 @@ module _ (g : List NodeView) (p r : Start) (w : ℕ) (q : TernaryRow) where
   made s cs b t = record { fits = fits_by s cs; action = action b t }
 
   -- a piece that is the whole of a row
-  whole : (k : ℕ) (t : Option Target) → Longer p r w q k → made p.state.number (cells_in p ++ (piece_at w q).cells) (p.beyond + k) t ≡ line_with r t
+  whole : (k : ℕ) (t : Option Target) → Longer p r w q k → made p.state.number (cells_in p ++ (ternary_piece w q).cells) (p.beyond + k) t ≡ line_with r t
   whole k t h = ap₂ (λ cs b. made p.state.number cs b t) (sym h.cells) (sym h.beyond) ∙ ap (λ s. made s.number (cells_in r) r.beyond t) (sym h.state)
 
-  first : (cs : List ℕ) (qs : List TernaryRow) → rows_from g cs p w (q ∷ qs) ≡ map (line_as p) (stands g cs (piece_at w q)) ++ rows_from g cs p w qs
+  first : (cs : List ℕ) (qs : List TernaryRow) → rows_from g cs p w (q ∷ qs) ≡ map (line_as p) (stands g cs (ternary_piece w q)) ++ rows_from g cs p w qs
   unfolding rows_from
-  first cs qs = map-append (line_as p) (stands g cs (piece_at w q)) _
+  first cs qs = map-append (line_as p) (stands g cs (ternary_piece w q)) _
 
   -- a piece that stands alone
   module _ (h : Longer p r w q 0) where
-    alone_is : (cs : List ℕ) → leads_on cs q.target ≡ false → map (line_as p) (stands g cs (piece_at w q)) ≡ line_with r (Some q.target) ∷ []
+    alone_is : (cs : List ℕ) → leads_on cs q.target ≡ false → map (line_as p) (stands g cs (ternary_piece w q)) ≡ line_with r (Some q.target) ∷ []
     alone_is [] e = ap (λ x. x ∷ []) (whole 0 (Some q.target) h)
     alone_is (c ∷ cs) e =
-        ap (λ b. map (line_as p) (cond b (map (join (piece_at w q)) (entries g c cs) ++ (closing (piece_at w q) ∷ [])) (alone (piece_at w q) ∷ []))) e
+        ap (λ b. map (line_as p) (cond b (map (join (ternary_piece w q)) (entries g c cs) ++ (closing (ternary_piece w q) ∷ [])) (alone (ternary_piece w q) ∷ []))) e
         ∙ ap (λ x. x ∷ []) (whole 0 (Some q.target) h)
 
     pub piece_alone : (cs : List ℕ) (qs : List TernaryRow) → leads_on cs q.target ≡ false → rows_from g cs p w (q ∷ qs) ≡ (line_with r (Some q.target) ∷ []) ++ rows_from g cs p w qs
@@ -82,21 +82,21 @@ module _ (g : List NodeView) (p r : Start) (w : ℕ) (q : TernaryRow) where
 
   -- a piece that leads to the chain's next node
   module _ (h : Longer p r w q 1) where
-    joined_line : (e : Entry) → line_as p (join (piece_at w q) e) ≡ line_as r e
+    joined_line : (e : Entry) → line_as p (join (ternary_piece w q) e) ≡ line_as r e
     joined_line e =
         let n : p.beyond + suc e.action.beyond ≡ r.beyond + e.action.beyond = omega (arith, h.beyond) in
-        let cells = sym (append_assoc (cells_in p) (piece_at w q).cells e.cells) ∙ ap (λ cs. cs ++ e.cells) (sym h.cells) in
+        let cells = sym (append_assoc (cells_in p) (ternary_piece w q).cells e.cells) ∙ ap (λ cs. cs ++ e.cells) (sym h.cells) in
         ap₂ (λ cs b. made p.state.number cs b e.action.target) cells n ∙ ap (λ s. made s.number (cells_in r ++ e.cells) (r.beyond + e.action.beyond) e.action.target) (sym h.state)
 
-    joined_lines : (es : List Entry) → map (line_as p) (map (join (piece_at w q)) es) ≡ map (line_as r) es
+    joined_lines : (es : List Entry) → map (line_as p) (map (join (ternary_piece w q)) es) ≡ map (line_as r) es
     joined_lines [] = refl
     joined_lines (e ∷ es) = ap₂ (λ x xs. x ∷ xs) (joined_line e) (joined_lines es)
 
     joined_is : (c : ℕ) (cs : List ℕ) → leads_to c q.target ≡ true
-        → map (line_as p) (stands g (c ∷ cs) (piece_at w q)) ≡ map (line_as r) (entries g c cs) ++ (line_with r None ∷ [])
+        → map (line_as p) (stands g (c ∷ cs) (ternary_piece w q)) ≡ map (line_as r) (entries g c cs) ++ (line_with r None ∷ [])
     joined_is c cs e =
-        ap (λ b. map (line_as p) (cond b (map (join (piece_at w q)) (entries g c cs) ++ (closing (piece_at w q) ∷ [])) (alone (piece_at w q) ∷ []))) e
-        ∙ map-append (line_as p) (map (join (piece_at w q)) (entries g c cs)) (closing (piece_at w q) ∷ [])
+        ap (λ b. map (line_as p) (cond b (map (join (ternary_piece w q)) (entries g c cs) ++ (closing (ternary_piece w q) ∷ [])) (alone (ternary_piece w q) ∷ []))) e
+        ∙ map-append (line_as p) (map (join (ternary_piece w q)) (entries g c cs)) (closing (ternary_piece w q) ∷ [])
         ∙ ap₂ (λ xs x. xs ++ (x ∷ [])) (joined_lines (entries g c cs)) (whole 1 None h)
 
     pub piece_joined : (c : ℕ) (cs : List ℕ) (qs : List TernaryRow) → leads_to c q.target ≡ true

@@ -1,7 +1,7 @@
--- What a load is refused for is its least fault.
-use Rattle.std.specs.Option.{option_or}
-use Rattle.std.proofs.Common.{◌≡◌, ℕ, ◌*◌, ◌<◌, ◌≤◌, min, Bool, true, false, eqb, leb, ◌⊎◌, List, length, Some, None, Ok, Option, sym, refl, ap, ◌∙◌, subst, inl, inr, arith}
-use Rattle.std.proofs.lemmas.Bool.{and_cases, and_parts, leb-true, leb-false, eqb-true}
+-- What a load is refused for is its first fault, and the least that applies.
+use Rattle.std.specs.Option.{option_or, option_map}
+use Rattle.std.proofs.Common.{◌≡◌, ℕ, ◌*◌, ◌<◌, ◌≤◌, min, Bool, true, false, ◌&&◌, eqb, leb, ◌⊎◌, List, length, Some, None, Ok, Err, Option, sym, refl, ap, ◌∙◌, subst, inl, inr, arith}
+use Rattle.std.proofs.lemmas.Bool.{and_cases, and_parts, cases_lt, leb-true, leb-false, lt-leb, eqb-true}
 use Rattle.refusals.specs.Searching.{unless, unless_fault}
 use Rattle.refusals.specs.Least.{rank, NotAfter, Least}
 use Rattle.refusals.proofs.Searching.{unless_none, option_or_none}
@@ -24,7 +24,8 @@ use Rattle.plans.specs.Checking.{size_fault, chains_fault, rules_fault, plan_fau
 use Rattle.compiler.specs.declared.fault.LoadFault.{LoadFault}
 use Rattle.compiler.specs.declared.fault.LoadFault.TheVariants.{File, Graph, Plan, TooMany, Store}
 use Rattle.compiler.specs.Faults.{of_load, from_read}
-use Rattle.compiler.specs.Loading.{roomy, LoadApplies}
+use Rattle.compiler.specs.Programs.{most_rows}
+use Rattle.compiler.specs.Loading.{roomy, LoadApplies, room_fault, load_fault}
 
 read_rank : (e : ReadFault) → rank (of_load (from_read e)) ≤ 6
 read_rank (read.File e) = omega (arith, file_rank e)
@@ -42,6 +43,14 @@ read_is minimum f g e = go (read_fault minimum f) e
     go None e = cc
     go (Some d) e = let z : ◌≡◌ {A = ℕ} 0 1 = cc in absurd (omega arith)
 
+-- and it has no fault
+pub read_clear : (minimum : Kind → ℕ) (f : List ℕ) (g : List NodeView) → Ok g ≡ reading minimum f → None ≡ read_fault minimum f
+read_clear minimum f g e = go (read_fault minimum f) e
+  where
+    go : (o : Option ReadFault) → Ok g ≡ unless_fault o (nodes_in f) → None ≡ o
+    go None e = refl
+    go (Some d) e = let z : ◌≡◌ {A = ℕ} 0 1 = cc in absurd (omega arith)
+
 -- an accepted plan has four bytes for each node
 pub size_is : (g : List NodeView) (p : List ℕ) → None ≡ plan_fault g p → length p ≡ 4 * length g
 size_is g p e =
@@ -49,20 +58,55 @@ size_is g p e =
     (option_or_none (size_fault (length g) p) (option_or (chains_fault (length g) p) (rules_fault g (chain_in p) (length g))) (sym e)).0)
 
 -- a cut count is room for the store exactly if the count is
-pub roomy_cut : (count capacity : ℕ) → roomy (min count 65535) capacity ≡ true → (count ≤ 512) × (count ≤ capacity)
+pub roomy_cut : (count capacity : ℕ) → roomy (min count 65535) capacity ≡ true → (count ≤ most_rows) × (count ≤ capacity)
 roomy_cut count capacity e =
-    let p = and_parts (leb (min count 65535) 512) (leb (min count 65535) capacity) e in
-    let a = leb-true (min count 65535) 512 p.0 in
+    let p = and_parts (leb (min count 65535) most_rows) (leb (min count 65535) capacity) e in
+    let a = leb-true (min count 65535) most_rows p.0 in
     let b = leb-true (min count 65535) capacity p.1 in
     (omega arith, omega arith)
 
-over_cut : (count capacity : ℕ) → roomy (min count 65535) capacity ≡ false → (512 < count) ⊎ (capacity < count)
-over_cut count capacity e = elim (and_cases (leb (min count 65535) 512) (leb (min count 65535) capacity) e) [
-  | inl a ↦ let l = leb-false (min count 65535) 512 a in inl (omega arith)
+over_cut : (count capacity : ℕ) → roomy (min count 65535) capacity ≡ false → (most_rows < count) ⊎ (capacity < count)
+over_cut count capacity e = elim (and_cases (leb (min count 65535) most_rows) (leb (min count 65535) capacity) e) [
+  | inl a ↦ let l = leb-false (min count 65535) most_rows a in inl (omega arith)
   | inr a ↦ let l = leb-false (min count 65535) capacity a in inr (omega arith)
 ]
 
+-- so the test is the same of both
+roomy_same : (count capacity : ℕ) → roomy (min count 65535) capacity ≡ roomy count capacity
+roomy_same count capacity = elim (cases_lt 65535 count) [
+  | inl l ↦
+      let a : most_rows < min count 65535 = omega arith in
+      let b : most_rows < count = omega arith in
+      ap (λ t. t && leb (min count 65535) capacity) (lt-leb _ _ a) ∙ sym (ap (λ t. t && leb count capacity) (lt-leb _ _ b))
+  | inr l ↦ let e : min count 65535 ≡ count = omega arith in ap (λ n. roomy n capacity) e
+]
+
 module _ (minimum : Kind → ℕ) (f p : List ℕ) (capacity : ℕ) where
+  abbrev count : ℕ
+  count = store_count (nodes_in f) (chain_in p)
+
+  -- the first fault is that of reading, else that of the plan, else that of the count of rows
+  pub read_told : (e : ReadFault) → Err e ≡ reading minimum f → Some (from_read e) ≡ load_fault minimum f p capacity
+  read_told e h = go (read_fault minimum f) h
+    where
+      go : (o : Option ReadFault) → Err e ≡ unless_fault o (nodes_in f)
+          → Some (from_read e) ≡ option_or (option_map from_read o) (option_or (option_map Plan (plan_fault (nodes_in f) p)) (room_fault count capacity))
+      go None h = let z : ◌≡◌ {A = ℕ} 0 1 = cc in absurd (omega arith)
+      go (Some d) h = cc
+
+  module _ (read : None ≡ read_fault minimum f) where
+    pub plan_told : (e : PlanFault) → Some e ≡ plan_fault (nodes_in f) p → Some (Plan e) ≡ load_fault minimum f p capacity
+    plan_told e h =
+        ap (λ o. option_or (option_map Plan o) (room_fault count capacity)) h
+        ∙ ap (λ o. option_or (option_map from_read o) (option_or (option_map Plan (plan_fault (nodes_in f) p)) (room_fault count capacity))) read
+
+    pub room_told : None ≡ plan_fault (nodes_in f) p → (rows : ℕ) → rows ≡ min count 65535
+        → (o : Option LoadFault) → o ≡ unless (roomy rows capacity) (TooMany rows) → o ≡ load_fault minimum f p capacity
+    room_told plan rows told o h =
+        h ∙ ap (λ n. unless (roomy n capacity) (TooMany n)) told ∙ ap (λ t. unless t (TooMany (min count 65535))) (roomy_same count capacity)
+        ∙ ap (λ o. option_or (option_map Plan o) (room_fault count capacity)) plan
+        ∙ ap (λ o. option_or (option_map from_read o) (option_or (option_map Plan (plan_fault (nodes_in f) p)) (room_fault count capacity))) read
+
   abbrev Faulty : LoadFault → Type 0
   Faulty = LoadApplies minimum f p capacity
 

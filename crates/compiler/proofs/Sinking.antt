@@ -4,6 +4,7 @@ use Rattle.std.proofs.lemmas.List.{append-nil, append_assoc, map-append, length-
 use Rattle.stores.specs.declared.question.Question.{Question}
 use Rattle.stores.specs.Meaning.{Meaning, holding}
 use Rattle.walks.specs.declared.action.Action.{Action}
+use Rattle.compiler.specs.Programs.{most_rows}
 use Rattle.compiler.specs.Sinks.{Line, Sink, sink, sunk, Room}
 
 -- the two halves of rows
@@ -33,7 +34,7 @@ sunk_append s xs ys =
 pub record Going (s : Sink) (rest : List Line) (whole : Sink) : Type 0 where
   pub gives : sunk s rest ≡ whole
   pub taken : length rest ≤ s.meaning.takes
-  pub beside : length s.actions + length rest ≤ 512
+  pub beside : length s.actions + length rest ≤ most_rows
 
 pub going_same : (s : Sink) (xs ys : List Line) (whole : Sink) → xs ≡ ys → Going s xs whole → Going s ys whole
 going_same s xs ys whole e h = subst (λ zs. Going s zs whole) e h

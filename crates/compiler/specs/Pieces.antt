@@ -1,5 +1,5 @@
 -- The ternary rows of a node, one after the other.
-use Rattle.std.specs.Prelude.{ℕ, ◌*◌, List, [], ◌∷◌, ◌++◌, map, drop, Some, None, Option}
+use Rattle.std.specs.Prelude.{◌*◌, List, [], ◌∷◌, ◌++◌, map, drop, Some, None, Option}
 use Rattle.std.specs.List.{flat_map}
 use Rattle.patterns.specs.declared.block.Block.{Block}
 use Rattle.patterns.specs.declared.row.Target.{Target}
@@ -7,15 +7,8 @@ use Rattle.patterns.specs.declared.row.TernaryRow.{TernaryRow}
 use Rattle.patterns.specs.declared.row.RangeRow.{RangeRow}
 use Rattle.patterns.specs.Splitting.{split_of}
 use Rattle.graphs.specs.View.{RowsView, ternary_rows, range_rows, node_view}
-use Rattle.walks.specs.Bytes.{filled}
-use Rattle.walks.specs.Rows as rows
-use Rattle.walks.specs.Rows.{free, cells_of}
 use Rattle.compiler.specs.declared.cursor.Cursor.{Cursor}
 use Rattle.compiler.specs.Held.{held}
-
--- a piece at a node with w lookup bytes
-abbrev pub piece_at : ℕ → TernaryRow → rows.Piece
-piece_at w p = rows.piece (filled free w (cells_of 4 p.value p.mask)) p.target
 
 -- a block of a range: its number stands in the first two bytes
 abbrev pub block_as : Target → Block → TernaryRow

@@ -1,5 +1,6 @@
 -- What a program says of a graph and a plan.
 use Rattle.std.specs.Prelude.{◌≡◌, ℕ, List, [], map, length, slice_index_or}
+use Rattle.std.proofs.Common.{arith}
 use Rattle.headers.specs.declared.kinds.Kind.TheVariants.{Ethernet}
 use Rattle.graphs.specs.declared.graph.Length.TheVariants.{Fixed}
 use Rattle.graphs.specs.View.{ternary_rows, NodeView, node_at}
@@ -10,9 +11,13 @@ use Rattle.compiler.specs.declared.program.Head.{Head}
 use Rattle.compiler.specs.declared.program.Program.{Program}
 use Rattle.compiler.specs.Held.{held}
 
+-- the most rows of a graph and a plan
+abbrev pub most_rows : ℕ
+most_rows = 512
+
 -- what a program has past its last node
 abbrev pub no_head : Head
-no_head = record { kind = Ethernet; length = Fixed 0; places = record { items = []; count = 0 }; chain = record { count = 0; nodes = [] }; window = 0 }
+no_head = record { kind = Ethernet; length = Fixed 0; places = record { items = []; count = 0; within = omega arith }; chain = record { count = 0; nodes = [] }; window = 0 }
 
 abbrev pub head_at : Program → ℕ → Head
 head_at p n = slice_index_or (held p.heads) n no_head

@@ -7,12 +7,12 @@ use Rattle.stores.specs.Fits.{fits}
 use Rattle.stores.specs.Meaning.{Meaning, holding, wiped}
 use Rattle.walks.specs.declared.action.Action.{Action}
 use Rattle.walks.specs.Bytes.{spelled_in}
-use Rattle.walks.specs.Rows.{key_width, Cell, Entry, StoreRow, action}
+use Rattle.walks.specs.Rows.{key_width, Cell, ternary_piece, Entry, StoreRow, action}
 use Rattle.compiler.specs.declared.start.Masked.{Masked}
 use Rattle.compiler.specs.declared.start.Start.{Start}
 use Rattle.compiler.specs.declared.sink.Sink as lent
 use Rattle.compiler.specs.Held.{held}
-use Rattle.compiler.specs.Pieces.{piece_at}
+use Rattle.compiler.specs.Programs.{most_rows}
 
 -- a row as the questions that it fits, and its action
 pub record Line : Type 0 where
@@ -38,7 +38,7 @@ sunk s rs =
 -- both have room for so many rows
 pub record Room {X : Type 0} (s : Sink) (rows : List X) : Type 0 where
   pub taken : length rows ≤ s.meaning.takes
-  pub beside : length s.actions + length rows ≤ 512
+  pub beside : length s.actions + length rows ≤ most_rows
 
 -- what a lent store means, and the lent actions
 abbrev pub sink_of : {S : Type 0} → (S → Meaning) → lent.Sink S → Sink
@@ -89,6 +89,6 @@ pub record Ready (cs : List ℕ) (p : Start) : Type 0 where
 
 -- r is p with the lookup bytes of a piece behind it, w of them, and k headers more are passed
 pub record Longer (p r : Start) (w : ℕ) (q : TernaryRow) (k : ℕ) : Type 0 where
-  pub cells : cells_in r ≡ cells_in p ++ (piece_at w q).cells
+  pub cells : cells_in r ≡ cells_in p ++ (ternary_piece w q).cells
   pub state : r.state ≡ p.state
   pub beyond : r.beyond ≡ p.beyond + k

@@ -8,8 +8,8 @@ ghost use Rattle.compiler.specs.Filled.{all_rows};
 ghost use Rattle.walks.specs.Plans.{store_count};
 ghost use Rattle.plans.specs.Chains.{chain_of};
 ghost use Rattle.compiler.specs.Faults.{of_load};
-ghost use Rattle.compiler.specs.Programs.{Stands};
-ghost use Rattle.compiler.specs.Loading.{roomy, LoadApplies, storing, Loaded, Kept, Loadable};
+ghost use Rattle.compiler.specs.Programs.{most_rows, Stands};
+ghost use Rattle.compiler.specs.Loading.{roomy, LoadApplies, load_fault, storing, Loaded, Kept, Loadable};
 
 use crate::checked::Checked;
 use crate::fault::LoadFault;
@@ -22,6 +22,8 @@ use plans::read::read_plan;
 use stores::fault::StoreFault;
 use stores::store::Store;
 
+// File and plan are two arguments throughout: a caller, also one in C, hands over each by itself.
+
 /// Reads a graph file and a plan, fills the store with their rows in place of its own, and writes
 /// what a reader keeps beside them. Refused by 1 to 6 as the file is, by 7 and 8 as the plan is, then
 /// by 9 if the rows are more than 512 or than the store can have; a refused call changes nothing.
@@ -31,6 +33,7 @@ pub fn compile<S: Store>(
     store: &mut S,
     program: &mut Program,
 ) -> Result<(), LoadFault>
+    ensures is { fault_of result ≡ load_fault (minimum_in standard_table) file.now plan.now (S.Store.meaning store.old).capacity }
     ensures answers { Answers of_load (LoadApplies (minimum_in standard_table) file.now plan.now (S.Store.meaning store.old).capacity) (λ _. Loaded (minimum_in standard_table) file.now plan.now (S.Store.meaning store.old) (S.Store.meaning store.new) program.new) result }
     ensures kept { Kept result (S.Store.meaning store.old) (S.Store.meaning store.new) program.old program.new }
 {
@@ -45,6 +48,7 @@ pub fn compile_by<S: Store>(
     store: &mut S,
     program: &mut Program,
 ) -> Result<(), LoadFault>
+    ensures is { fault_of result ≡ load_fault (minimum_in table.now) file.now plan.now (S.Store.meaning store.old).capacity }
     ensures answers { Answers of_load (LoadApplies (minimum_in table.now) file.now plan.now (S.Store.meaning store.old).capacity) (λ _. Loaded (minimum_in table.now) file.now plan.now (S.Store.meaning store.old) (S.Store.meaning store.new) program.new) result }
     ensures kept { Kept result (S.Store.meaning store.old) (S.Store.meaning store.new) program.old program.new }
 {
@@ -55,7 +59,8 @@ pub fn compile_by<S: Store>(
 
 // The graph of the file and the chains of the plan. Refused by 1 to 9.
 fn check(table: &KindTable, file: &[u8], plan: &[u8], capacity: u16) -> Result<Checked, LoadFault>
-    ensures { Answers of_load (LoadApplies (minimum_in table.now) file.now plan.now capacity) (λ checked. Loadable (minimum_in table.now) file.now plan.now capacity checked) result }
+    ensures is { fault_of result ≡ load_fault (minimum_in table.now) file.now plan.now capacity }
+    ensures answers { Answers of_load (LoadApplies (minimum_in table.now) file.now plan.now capacity) (λ checked. Loadable (minimum_in table.now) file.now plan.now capacity checked) result }
 {
     let graph = read_graph_by(table, file)?;
     let chains = read_plan(&graph, plan)?;
@@ -75,7 +80,7 @@ fn check_room(rows: u16, capacity: u16) -> Result<(), LoadFault>
 
 // Fills the wiped store and writes the program. The store has room.
 fn load<S: Store>(checked: &Checked, store: &mut S, program: &mut Program) -> Result<(), StoreFault>
-    requires few { store_count (graph_view checked.now.graph) (chain_of checked.now.chains) ≤ 512 }
+    requires few { store_count (graph_view checked.now.graph) (chain_of checked.now.chains) ≤ most_rows }
     requires room { store_count (graph_view checked.now.graph) (chain_of checked.now.chains) ≤ (S.Store.meaning store.old).capacity }
     requires past { (n : ℕ) → length (graph_view checked.now.graph) ≤ n → chain_of checked.now.chains n ≡ [] }
     ensures answered { result ≡ Ok tt }

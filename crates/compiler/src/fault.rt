@@ -35,6 +35,7 @@ impl From<LoadFault> for Refusal {
     }
 }
 
+// As other faults take a reading's, each into variants of its own.
 impl From<ReadFault> for LoadFault {
     ghost from_gives = { λ e r. r ≡ from_read e };
 
@@ -49,15 +50,15 @@ impl From<ReadFault> for LoadFault {
 impl From<PlanFault> for LoadFault {
     ghost from_gives = { λ e r. r ≡ Plan e };
 
-    fn from(fault: PlanFault) -> LoadFault {
-        LoadFault::Plan(fault)
+    fn from(why: PlanFault) -> LoadFault {
+        LoadFault::Plan(why)
     }
 }
 
 impl From<StoreFault> for LoadFault {
     ghost from_gives = { λ e r. r ≡ Store e };
 
-    fn from(fault: StoreFault) -> LoadFault {
-        LoadFault::Store(fault)
+    fn from(why: StoreFault) -> LoadFault {
+        LoadFault::Store(why)
     }
 }

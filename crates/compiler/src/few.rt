@@ -1,65 +1,25 @@
-// A list in fixed memory: a device has no heap.
-ghost use Rattle.std.specs.Prelude.{◌≡◌, ◌+◌, ◌<◌, ◌≤◌, [], ◌∷◌, ◌++◌, length, take};
-ghost use Rattle.compiler.specs.Held.{held};
+// A list in fixed memory: a device has no heap. It is copied with the program that it stands in, as the
+// kit's `arrayvec` is not.
+ghost use Rattle.std.specs.Prelude.{◌≡◌, ◌≤◌};
+
+use std::alloc::AllocError;
 
 /// A list of at most `N` items, in an array with their count.
-#[derive(Clone, Copy)]
 pub struct Few<T, const N: usize> {
-    items: [T; N],
-    count: usize,
+    pub(crate) items: [T; N],
+    pub(crate) count: usize,
+    ghost within: { count ≤ N },
 }
 
-impl<T: Copy, const N: usize> Few<T, N> {
-    /// No items. What stands in the free places is never seen.
-    pub fn new(blank: T) -> Few<T, N>
-        ensures { held result ≡ [] }
-    {
-        Few {
-            items: [blank; N],
-            count: 0,
-        }
-    }
+impl<T: Copy, const N: usize> Copy for Few<T, N> {}
 
-    // The first `count` items of an array.
-    pub(crate) fn counted(items: [T; N], count: usize) -> Few<T, N>
-        ensures { held result ≡ take count items }
-    {
-        Few { items, count }
-    }
+// By hand: a generic struct with a ghost field derives no `Clone`.
+impl<T: Copy, const N: usize> Clone for Few<T, N> {
+    ghost is_clone = { λ list copy. copy ≡ list };
 
-    /// The items, in order.
-    pub fn as_slice(&self) -> &[T]
-        ensures is { result.now ≡ held self.now }
-        ensures few { length result.now ≤ N }
-    {
-        self.items.get(..self.count).unwrap_or(&self.items)
-    }
+    ghost is_infallible = { λ _. Unit {0} };
 
-    // Leaves no items.
-    pub(crate) fn clear(&mut self)
-        ensures { held self.new ≡ [] }
-    {
-        self.count = 0;
-    }
-
-    // Puts an item behind the others.
-    pub(crate) fn push(&mut self, item: T)
-        requires { length (held self.old) < N }
-        ensures { held self.new ≡ held self.old ++ (item ∷ []) }
-    {
-        self.items[self.count] = item;
-        self.count += 1;
-    }
-
-    // Puts items behind the others, in order.
-    pub(crate) fn extend_from_slice(&mut self, items: &[T])
-        requires { length (held self.old) + length items.now ≤ N }
-        ensures { held self.new ≡ held self.old ++ items.now }
-    {
-        // One by one: no part of the array begins at a count above `N`, which the type does not rule
-        // out.
-        for item in items {
-            self.push(*item);
-        }
+    fn clone(&self) -> Result<Few<T, N>, AllocError> {
+        Ok(*self)
     }
 }

@@ -9,6 +9,7 @@ mod emit;
 pub mod fault;
 pub mod few;
 mod fill;
+mod items;
 mod pieces;
 pub mod program;
 mod sink;

@@ -54,8 +54,8 @@ impl Program {
 }
 
 impl Head {
-    // What stands for no node.
-    fn none() -> Head
+    /// What stands for no node.
+    pub fn none() -> Head
         ensures { HeadOf [] (λ n. []) 0 result }
     {
         Head {

@@ -28,6 +28,7 @@ pub enum Failure<'a> {
     System(io::Error),
 }
 
+// By hand, and the impls of `From` below: a case each is as plain as a derive of another crate's.
 impl fmt::Display for Failure<'_> {
     fn fmt<W: fmt::Write>(&self, f: &mut fmt::Formatter<W>) -> fmt::Result {
         match self {

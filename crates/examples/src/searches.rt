@@ -76,19 +76,22 @@ const RANGE_CASES: [([RangeRow; 3], u16, Option<usize>, Option<usize>); 5] = [
     ([TWENTIES, REVERSED, LATE_TWENTIES], 25, Some(0), Some(2)),
 ];
 
+// The first row that the key fits, and the first that one before covers.
+fn found<P: Pattern>(rows: &[P::Plain], key: P::Key) -> (Option<usize>, Option<usize>) {
+    (first_fit::<P>(rows, key), first_covered::<P>(rows))
+}
+
 #[test]
 fn ternary_rows_are_found(rt: HostRuntime) {
     for (rows, key, fit, covered) in TERNARY_CASES {
-        assert_eq!(rt; first_fit::<Ternary>(&rows, key), fit);
-        assert_eq!(rt; first_covered::<Ternary>(&rows), covered);
+        assert_eq!(rt; found::<Ternary>(&rows, key), (fit, covered));
     }
 }
 
 #[test]
 fn range_rows_are_found(rt: HostRuntime) {
     for (rows, key, fit, covered) in RANGE_CASES {
-        assert_eq!(rt; first_fit::<Span>(&rows, key), fit);
-        assert_eq!(rt; first_covered::<Span>(&rows), covered);
+        assert_eq!(rt; found::<Span>(&rows, key), (fit, covered));
     }
 }
 

@@ -9,6 +9,7 @@ use crate::pairs::Pair;
 use crate::record::RowAt;
 use graphs::graph::{Graph, Length, NODES, Node, Rows};
 use headers::kinds::Kind;
+use octets::read::byte_at;
 use patterns::row::{RangeRow, Target, TernaryRow};
 use std::array;
 
@@ -20,18 +21,17 @@ fn kind_at(number: u8) -> Kind
 }
 
 fn length_in(bytes: &[u8]) -> Length
-    requires { 16 ≤ length bytes.now }
     ensures { result ≡ length_in bytes.now }
 {
-    if bytes[1] == 0 {
-        return Length::Fixed(bytes[2]);
+    if byte_at(bytes, 1) == 0 {
+        return Length::Fixed(byte_at(bytes, 2));
     }
     Length::Counted {
-        place: bytes[2],
-        mask: bytes[3],
-        shift: bytes[4],
-        unit: bytes[5],
-        base: bytes[6],
+        place: byte_at(bytes, 2),
+        mask: byte_at(bytes, 3),
+        shift: byte_at(bytes, 4),
+        unit: byte_at(bytes, 5),
+        base: byte_at(bytes, 6),
     }
 }
 

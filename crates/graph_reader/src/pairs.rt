@@ -97,20 +97,19 @@ impl<'a> Pair<'a> {
 
 // Refused by 2, at the first pair that is wrong.
 pub(crate) fn check_pairs(file: &[u8]) -> Result<(), FileFault>
-    requires { 2 ≤ length file.now }
     ensures { fault_of result ≡ pair_fault file.now }
 {
-    (0..file[0])
+    (0..byte_at(file, 0))
         .find(|node| !Pair::of(file, *node).is_right())
         .map_or(Ok(()), |pair| Err(FileFault::Pair { pair }))
 }
 
 // Refused by 3, at the first node and byte that is out of its range.
 pub(crate) fn check_bytes(file: &[u8]) -> Result<(), FileFault>
-    requires { (2 ≤ length file.now) × (pair_fault file.now ≡ None) }
+    requires { pair_fault file.now ≡ None }
     ensures { fault_of result ≡ byte_fault file.now }
 {
-    for node in 0..file[0] {
+    for node in 0..byte_at(file, 0) {
         check_record(node, Pair::of(file, node).record())?;
     }
     Ok(())

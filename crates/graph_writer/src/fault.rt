@@ -45,6 +45,7 @@ impl From<GraphFault> for WriteFault {
     }
 }
 
+// As other faults take a reading's, each into variants of its own.
 impl From<ReadFault> for WriteFault {
     ghost from_gives = { λ e r. r ≡ from_read e };
 

@@ -128,7 +128,7 @@ fn put_rows<R: RowBytes>(rows: &[R], area: &mut [u8])
     requires { 10 * length rows.now ≤ length area.old }
     ensures { area.new ≡ written area.old 0 (flat_map R.said rows.now) }
 {
-    // By index and no `as_chunks_mut`: behind that loan a proof knows the area's length and not its bytes.
+    // By index and no `as_chunks_mut`, which was tried: behind that loan a proof knows the area's length and not its bytes.
     for (k, row) in rows.iter().enumerate() {
         put(&mut area[10 * k..], &row.row_bytes());
     }

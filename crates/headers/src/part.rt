@@ -35,7 +35,7 @@ pub fn field_in<'a>(
     };
     let from = usize::from(mark.offset) + usize::from(place.offset);
     let length = usize::from(place.length);
-    // By a test and no `get`, here and in `payload`: what `get` hands out is not told to lie in the packet's own memory.
+    // By a test and no `get`, which was tried, here and in `payload`: what `get` hands out is not told to lie in the packet's own memory.
     if from + length > packet.len() {
         return Err(PartFault::FieldOutside);
     }

@@ -21,6 +21,7 @@ pub fn first_fit<P: Pattern>(rows: &[P::Plain], key: P::Key) -> Option<usize>
     place_of_fit::<P>(rows, key)
 }
 
+// Apart from `first_fit`: with the clauses of both in one function, which was tried, the chain's proof does not close.
 fn place_of_fit<P: Pattern>(rows: &[P::Plain], key: P::Key) -> Option<usize>
     ensures { result ≡ first_fit P.made P.fits key rows.now }
 {
@@ -58,6 +59,7 @@ pub fn first_covered<P: Pattern>(rows: &[P::Plain]) -> Option<usize>
     place_of_covered::<P>(rows)
 }
 
+// Apart from `first_covered`, as above.
 fn place_of_covered<P: Pattern>(rows: &[P::Plain]) -> Option<usize>
     ensures is { result ≡ first_covered P.made P.covers rows.now }
     ensures within { IfSome result (λ i. i < length rows.now) }

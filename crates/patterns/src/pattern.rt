@@ -69,7 +69,7 @@ impl Pattern for Ternary {
     ghost named = { ternary_named };
 
     fn make(plain: &TernaryRow) -> Option<Ternary> {
-        // By a branch and no `then`: the type's invariant is shown by the test.
+        // By a branch and no `then`, which was tried: the type's invariant is shown by the test.
         if plain.value & plain.mask == plain.value {
             Some(Ternary {
                 value: plain.value,
@@ -111,6 +111,7 @@ impl Pattern for Span {
     ghost named = { span_named };
 
     fn make(plain: &RangeRow) -> Option<Span> {
+        // By a branch, as above.
         if plain.low <= plain.high {
             Some(Span {
                 low: plain.low,

@@ -26,40 +26,40 @@ fn loaded_graph<S: Store>(graph: &Graph, plan: &[u8], store: &mut S) -> Result<u
 }
 
 // Number 9, at the rows that are needed.
-fn too_many(rows: u16) -> Result<u16, Refusal> {
-    Err(Refusal::at(9, Layer::Store, rows, 0))
+fn too_many(rows: u16) -> Refusal {
+    Refusal::at(9, Layer::Store, rows, 0)
 }
 
-// The bytes with which the plan of the sample begins, a store's capacity, the rows that are needed,
-// and whether the store serves.
-const SAMPLE_ROOM: [(u8, u8, u16, u16, bool); 6] = [
-    (0, 0, 8, 8, true),
-    (0, 0, 7, 8, false),
-    (1, 1, 14, 13, true),
-    (1, 1, 13, 13, true),
-    (1, 1, 12, 13, false),
-    (1, 1, 0, 13, false),
+// The bytes with which the plan of the sample begins, a store's capacity, and the rows that are loaded,
+// or else those that are needed.
+const SAMPLE_ROOM: [(u8, u8, u16, Result<u16, u16>); 6] = [
+    (0, 0, 8, Ok(8)),
+    (0, 0, 7, Err(8)),
+    (1, 1, 14, Ok(13)),
+    (1, 1, 13, Ok(13)),
+    (1, 1, 12, Err(13)),
+    (1, 1, 0, Err(13)),
 ];
 
 #[test]
 fn the_sample_needs_eight_rows_and_with_its_plan_thirteen(rt: HostRuntime) {
-    for (count, behind, capacity, rows, serves) in SAMPLE_ROOM {
+    for (count, behind, capacity, rows) in SAMPLE_ROOM {
         let plan = [count, behind, 0, 0, 0, 0, 0, 0, 0, 0, 0, 0, 0, 0, 0, 0];
-        let expected = if serves { Ok(rows) } else { too_many(rows) };
+        let mut store = Limited::new(capacity);
         assert_eq!(rt;
-            loaded(&FOUR_NODES, &plan, &mut Limited::new(capacity)),
-            expected
+            loaded(&FOUR_NODES, &plan, &mut store),
+            rows.map_err(too_many)
         );
     }
 }
 
-// The rows of the last of 32 nodes, a store's capacity, the rows that are needed, and whether the store
-// serves. With x rows of the last node they are 1 + 30 × 16 + x by themselves, and 1 + 1 × 16 more
+// The rows of the last of 32 nodes, a store's capacity, and the rows that are loaded, or else those that
+// are needed. With x rows of the last node they are 1 + 30 × 16 + x by themselves, and 1 + 1 × 16 more
 // with the chain: 498 + x.
-const WIDE_ROOM: [(u8, u16, u16, bool); 3] = [
-    (14, 512, 512, true),
-    (14, 511, 512, false),
-    (15, 512, 513, false),
+const WIDE_ROOM: [(u8, u16, Result<u16, u16>); 3] = [
+    (14, 512, Ok(512)),
+    (14, 511, Err(512)),
+    (15, 512, Err(513)),
 ];
 
 #[test]
@@ -67,14 +67,19 @@ fn no_more_than_512_rows_are_loaded(rt: HostRuntime) {
     let mut plan = [0; 128];
     plan[0] = 1;
     plan[1] = 1;
-    for (last, capacity, rows, serves) in WIDE_ROOM {
-        let expected = if serves { Ok(rows) } else { too_many(rows) };
+    for (last, capacity, rows) in WIDE_ROOM {
         let mut store = Limited::new(capacity);
-        assert_eq!(rt; loaded_graph(&wide(last), &plan, &mut store), expected);
+        assert_eq!(rt;
+            loaded_graph(&wide(last), &plan, &mut store),
+            rows.map_err(too_many)
+        );
     }
     let mut large = Pair::new(Sliced::new(), Listing::new());
     assert_eq!(rt; loaded_graph(&wide(14), &plan, &mut large), Ok(512));
-    assert_eq!(rt; loaded_graph(&wide(15), &plan, &mut large), too_many(513));
+    assert_eq!(rt;
+        loaded_graph(&wide(15), &plan, &mut large),
+        Err(too_many(513))
+    );
     assert_eq!(rt; large.capacity(), 576);
 }
 
@@ -93,7 +98,8 @@ fn many_rows_are_told_up_to_65535(rt: HostRuntime) {
     for (chain, rows) in CHAINS {
         let [a, b, c, d] = chain;
         let plan = [a, b, c, d, 0, 0, 0, 0, 0, 0, 0, 0, 0, 0, 0, 0];
-        assert_eq!(rt; loaded_graph(&ranges(), &plan, &mut store), too_many(rows));
+        let loaded = loaded_graph(&ranges(), &plan, &mut store);
+        assert_eq!(rt; loaded, Err(too_many(rows)));
     }
     assert_eq!(rt; store.held(), 120);
 }

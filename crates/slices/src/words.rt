@@ -5,7 +5,8 @@ ghost use Rattle.slices.specs.Words.{half_of, accepts, with_bit, lowest_bit};
 
 use stores::question::Row;
 
-// The half byte at a place of a state and a key.
+// The half byte at a place of a state and a key. That a place is below 18 is asked where one is used: it is a number
+// of a loop and no value that is kept.
 pub(crate) fn half(state: u8, key: u64, place: usize) -> usize
     requires { place < 18 }
     ensures is { result ≡ half_of state key place }

@@ -61,7 +61,7 @@ impl<A: Store, B: Store> Store for Pair<A, B> {
 
     fn ask(&mut self, question: &Question) -> Option<u16> {
         self.questions = self.questions.wrapping_add(1);
-        // `or_else` does not tell that the second is left alone where the first answers.
+        // Tried: `or_else` does not tell that the second is left alone where the first answers.
         match self.first.ask(question) {
             Some(place) => Some(place),
             None => moved(self.first.held(), self.second.ask(question)),

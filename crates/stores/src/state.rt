@@ -18,6 +18,7 @@ pub struct NoState {
     pub number: u8,
 }
 
+// By hand, as one `write!` is as plain as a derive of another crate's.
 impl fmt::Display for NoState {
     fn fmt<W: fmt::Write>(&self, f: &mut fmt::Formatter<W>) -> fmt::Result {
         write!(f, "{} is no state: a state is below 64", self.number)
@@ -42,6 +43,7 @@ impl TryFrom<u8> for State {
     }
 }
 
+// By hand: `Default` is not derived for a struct with a ghost field.
 impl Default for State {
     ghost is_default = { λ state. state.number ≡ 0 };
 

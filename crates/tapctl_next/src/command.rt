@@ -1,5 +1,7 @@
 // The commands of the program: how they are written, and what each does.
+use crate::compare_text::Comparison;
 use crate::plan_words::plan_of;
+use crate::read_text::{Detail, Job};
 use crate::table_text::{NoStore, StoreKind, print_table};
 use crate::walk_text::print_walks;
 use console::basic::Basic;
@@ -28,6 +30,27 @@ pub enum Command<'w, 'a> {
         plan: &'a str,
         store: StoreKind,
     },
+    Read(ReadFiles<'a>),
+    Compare(CompareFiles<'a>),
+}
+
+/// The files of a graph, a plan and packets, the store of the tap that reads, and what is printed.
+#[derive(Clone, Copy)]
+pub struct ReadFiles<'a> {
+    file: &'a str,
+    plan: &'a str,
+    packets: &'a str,
+    store: StoreKind,
+    detail: Detail,
+}
+
+/// The files of a graph, of the plans of two taps, and of packets.
+#[derive(Clone, Copy)]
+pub struct CompareFiles<'a> {
+    file: &'a str,
+    left: &'a str,
+    right: &'a str,
+    packets: &'a str,
 }
 
 impl<'w, 'a> Command<'w, 'a> {
@@ -54,9 +77,35 @@ impl<'w, 'a> Command<'w, 'a> {
                 plan: *plan,
                 store: store.parse()?,
             }),
+            ["compare", file, left, right, packets] => Ok(Command::Compare(CompareFiles {
+                file: *file,
+                left: *left,
+                right: *right,
+                packets: *packets,
+            })),
+            ["read", "--summary", words @ ..] => Command::read(words, Detail::Summary),
+            ["read", words @ ..] => Command::read(words, Detail::Packets),
             words => Basic::parse(words)
                 .map(Command::Basic)
                 .ok_or(Failure::Usage(USAGE)),
+        }
+    }
+
+    // The command to read packets that the words behind it say.
+    fn read(words: &[&'a str], detail: Detail) -> Result<Command<'w, 'a>, Failure<'a>> {
+        let (files, store) = match words {
+            [files @ .., store] if files.len() == 3 => (files, store.parse()?),
+            files => (files, StoreKind::Listing),
+        };
+        match files {
+            [file, plan, packets] => Ok(Command::Read(ReadFiles {
+                file: *file,
+                plan: *plan,
+                packets: *packets,
+                store,
+                detail,
+            })),
+            _ => Err(Failure::Usage(USAGE)),
         }
     }
 
@@ -67,7 +116,42 @@ impl<'w, 'a> Command<'w, 'a> {
             Command::Walk { file, packets } => walk(rt, file, packets),
             Command::Plan { file, out, chains } => plan(rt, file, out, chains),
             Command::Table { file, plan, store } => table(rt, file, plan, store),
+            Command::Read(files) => files.carry_out(rt),
+            Command::Compare(files) => files.carry_out(rt),
         }
+    }
+}
+
+impl<'a> ReadFiles<'a> {
+    // Reads the packets by a tap.
+    fn carry_out(self, rt: &(impl Files + Print + AllocGlobal)) -> Result<(), Failure<'a>> {
+        let file = bytes_of(rt, self.file)?;
+        let plan = bytes_of(rt, self.plan)?;
+        let packets = bytes_of(rt, self.packets)?;
+        let job = Job {
+            file: file.as_slice(),
+            plan: plan.as_slice(),
+            packets: packets.as_slice(),
+            detail: self.detail,
+        };
+        job.print(rt, self.store)
+    }
+}
+
+impl<'a> CompareFiles<'a> {
+    // Reads the packets by two taps side by side.
+    fn carry_out(self, rt: &(impl Files + Print + AllocGlobal)) -> Result<(), Failure<'a>> {
+        let file = bytes_of(rt, self.file)?;
+        let left = bytes_of(rt, self.left)?;
+        let right = bytes_of(rt, self.right)?;
+        let packets = bytes_of(rt, self.packets)?;
+        let comparison = Comparison {
+            file: file.as_slice(),
+            left: left.as_slice(),
+            right: right.as_slice(),
+            packets: packets.as_slice(),
+        };
+        comparison.print(rt)
     }
 }
 
@@ -125,6 +209,11 @@ pub const USAGE: &str = "usage: tapctl COMMAND
   walk FILE PACKETS        walks a packet, or those of a capture, through the graph, header by header
   plan FILE OUT [CHAIN..]  writes a plan for the graph to OUT, with the chains given, as 0:1 or 2:3,4
   table FILE PLAN [STORE]  shows the rows of graph and plan, for a store: listing, sliced or pile
+  read [--summary] FILE PLAN PACKETS [STORE]
+                           loads graph and plan into a tap, reads a packet or those of a capture by questions
+                           to the store, and prints the marks, the endings and the report
+  compare FILE PLAN PLAN PACKETS
+                           reads the packets by two taps, one for each plan, and prints the questions of both
   demo                     checks, shows and copies a graph that the program makes
   stores                   fills and asks the stores, and prints what they say side by side
   script                   takes commands from standard input, one to a line";

@@ -3,7 +3,9 @@
 #![tactic(auto)]
 
 mod command;
+mod compare_text;
 mod plan_words;
+mod read_text;
 mod table_text;
 mod walk_text;
 

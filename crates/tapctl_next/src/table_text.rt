@@ -7,15 +7,24 @@ use console::graph_text::TargetText;
 use console::hex::Hex;
 use graph_reader::read::read_graph;
 use graphs::graph::Graph;
+use plans::chains::Chain;
 use refusals::refusal::Refusal;
 use slices::pile::fresh_pile;
 use slices::sliced::Sliced;
+use std::alloc::Global;
 use std::str::FromStr;
 use std::{fmt, io};
 use stores::listing::Listing;
 use stores::question::Row;
 use stores::store::Store;
 use walks::action::Action;
+
+// The headings of the columns whose texts differ in length.
+const NODE: &str = "node";
+
+const TARGET: &str = "target";
+
+const NUMBERS: &str = "value / mask";
 
 /// The stores that a table can be made for.
 #[derive(Clone, Copy)]
@@ -54,13 +63,8 @@ pub fn print_table<'a>(
     let mut listing = Listing::new();
     let mut program = Program::none();
     compile(file, plan, &mut listing, &mut program).map_err(Refusal::from)?;
-    println!(rt;
-        "place  state  node                            headers  target             value / mask over the lookup bytes, and bit by bit"
-    )?;
-    let actions = program.actions.as_slice();
-    for (place, (row, action)) in listing.rows().iter().zip(actions.iter()).enumerate() {
-        print_row(rt, &graph, &program, place, row, *action)?;
-    }
+    let lines = lines_of(rt.alloc(), &graph, &program, listing.rows())?;
+    print_lines(rt, lines.as_slice())?;
     let rows = listing.held();
     println!(rt; "{rows} rows of the {capacity} that the store can have")?;
     Ok(())
@@ -80,22 +84,101 @@ fn capacity_in<S: Store>(file: &[u8], plan: &[u8], store: &mut S) -> Result<u16,
     Ok(store.capacity())
 }
 
-fn print_row(
-    rt: &(impl Print + AllocGlobal),
+// A row with its action, in words.
+#[derive(Drop)]
+struct Line {
+    state: u8,
+    nodes: String,
+    headers: usize,
+    target: String,
+    numbers: String,
+    bits: String,
+}
+
+// The rows of the program, each in words.
+fn lines_of<'a>(
+    heap: Global,
     graph: &Graph,
     program: &Program,
-    place: usize,
-    row: &Row,
-    action: Action,
-) -> io::Result<()> {
-    let state = row.state.number();
-    let nodes = NodesText(state, program).to_string(rt.alloc())?;
-    let nodes = nodes.as_str();
-    let headers = usize::from(action.beyond) + 1;
-    let target = ActionText(action, graph).to_string(rt.alloc())?;
-    let target = target.as_str();
-    let pattern = PatternText(row.value, row.mask, width_of(program, state));
-    println!(rt; "{place:>5}  {state:>5}  {nodes:<30}  {headers:>7}  {target:<17}  {pattern}")
+    rows: &[Row],
+) -> Result<Vec<Line>, Failure<'a>> {
+    let mut lines = Vec::new(heap);
+    for (row, action) in rows.iter().zip(program.actions.as_slice().iter()) {
+        let state = row.state.number();
+        let look = Look { program, state };
+        let pattern = Pattern {
+            value: row.value,
+            mask: row.mask,
+            width: look.width(),
+        };
+        lines.push(Line {
+            state,
+            nodes: look.to_string(heap)?,
+            headers: usize::from(action.beyond) + 1,
+            target: ActionText(*action, graph).to_string(heap)?,
+            numbers: NumbersText(pattern).to_string(heap)?,
+            bits: PatternBitsText(pattern).to_string(heap)?,
+        })?;
+    }
+    Ok(lines)
+}
+
+// Prints the lines below a heading, each column as wide as its widest text.
+fn print_lines(rt: &impl Print, lines: &[Line]) -> io::Result<()> {
+    let widths = Widths::of(lines);
+    let node = Padded(NODE, widths.nodes);
+    let target = Padded(TARGET, widths.target);
+    let numbers = Padded(NUMBERS, widths.numbers);
+    println!(rt; "place  state  {node}  headers  {target}  {numbers}  bit by bit")?;
+    for (place, line) in lines.iter().enumerate() {
+        let (state, headers) = (line.state, line.headers);
+        let nodes = Padded(line.nodes.as_str(), widths.nodes);
+        let target = Padded(line.target.as_str(), widths.target);
+        let numbers = Padded(line.numbers.as_str(), widths.numbers);
+        let bits = line.bits.as_str();
+        println!(rt; "{place:>5}  {state:>5}  {nodes}  {headers:>7}  {target}  {numbers}  {bits}")?;
+    }
+    Ok(())
+}
+
+// How wide the columns are whose texts differ in length.
+#[derive(Clone, Copy)]
+struct Widths {
+    nodes: usize,
+    target: usize,
+    numbers: usize,
+}
+
+impl Widths {
+    // As wide as the heading and each of the lines.
+    fn of(lines: &[Line]) -> Widths {
+        let mut widths = Widths {
+            nodes: NODE.len(),
+            target: TARGET.len(),
+            numbers: NUMBERS.len(),
+        };
+        for line in lines {
+            widths.nodes = widths.nodes.max(line.nodes.len());
+            widths.target = widths.target.max(line.target.len());
+            widths.numbers = widths.numbers.max(line.numbers.len());
+        }
+        widths
+    }
+}
+
+// A text, and spaces behind it up to a width.
+#[derive(Clone, Copy)]
+struct Padded<'a>(&'a str, usize);
+
+impl fmt::Display for Padded<'_> {
+    fn fmt<W: fmt::Write>(&self, f: &mut fmt::Formatter<W>) -> fmt::Result {
+        let Padded(text, width) = *self;
+        f.write_str(text)?;
+        for _ in text.len()..width {
+            f.write_char(' ')?;
+        }
+        Ok(())
+    }
 }
 
 // The head of a node; none past the program's nodes.
@@ -108,39 +191,43 @@ fn places_of(program: &Program, node: u8) -> usize {
     head_of(program, node).map_or(0, |head| head.places.as_slice().len())
 }
 
-// The node of a state, and from the first chained state on the head that has its chain.
-fn node_and_head(program: &Program, state: u8) -> (u8, Option<Head>) {
-    match state.checked_sub(CHAIN_BASE) {
-        Some(node) => (node, head_of(program, node)),
-        None => (state, None),
+// A state of a program, which names the nodes that its rows are over.
+#[derive(Clone, Copy)]
+struct Look<'a> {
+    program: &'a Program,
+    state: u8,
+}
+
+impl Look<'_> {
+    // The node of the state, and its chain from the first chained state on.
+    fn nodes(&self) -> (u8, Chain) {
+        match self.state.checked_sub(CHAIN_BASE) {
+            Some(node) => {
+                let head = head_of(self.program, node);
+                (node, head.map_or(Chain::none(), |head| head.chain))
+            }
+            None => (self.state, Chain::none()),
+        }
+    }
+
+    // How many lookup bytes the rows are over: those of the node and of its chain.
+    fn width(&self) -> usize {
+        let (node, chain) = self.nodes();
+        let own = places_of(self.program, node);
+        let behind = chain.named_nodes().iter();
+        behind.fold(own, |width, next| {
+            width.saturating_add(places_of(self.program, *next))
+        })
     }
 }
 
-// How many lookup bytes the rows of a state are over: those of its node and of its chain.
-fn width_of(program: &Program, state: u8) -> usize {
-    let (node, head) = node_and_head(program, state);
-    let own = places_of(program, node);
-    head.map_or(own, |head| {
-        let chain = head.chain.named_nodes().iter();
-        chain.fold(own, |width, next| {
-            width.saturating_add(places_of(program, *next))
-        })
-    })
-}
-
-// The nodes of a state by number and kind.
-#[derive(Clone, Copy)]
-struct NodesText<'a>(u8, &'a Program);
-
-impl fmt::Display for NodesText<'_> {
+// The nodes by number and kind.
+impl fmt::Display for Look<'_> {
     fn fmt<W: fmt::Write>(&self, f: &mut fmt::Formatter<W>) -> fmt::Result {
-        let NodesText(state, program) = *self;
-        let (node, head) = node_and_head(program, state);
-        write!(f, "{}", NodeText(node, program))?;
-        if let Some(head) = head {
-            for next in head.chain.named_nodes() {
-                write!(f, " + {}", NodeText(*next, program))?;
-            }
+        let (node, chain) = self.nodes();
+        write!(f, "{}", NodeText(node, self.program))?;
+        for next in chain.named_nodes() {
+            write!(f, " + {}", NodeText(*next, self.program))?;
         }
         Ok(())
     }
@@ -173,22 +260,47 @@ impl fmt::Display for ActionText<'_> {
     }
 }
 
-// A value and a mask over so many bytes from the top: in hex, and bit by bit.
+// A value and a mask over so many bytes from the top.
 #[derive(Clone, Copy)]
-struct PatternText(u64, u64, usize);
+struct Pattern {
+    value: u64,
+    mask: u64,
+    width: usize,
+}
 
-impl fmt::Display for PatternText {
+// A pattern in hex.
+#[derive(Clone, Copy)]
+struct NumbersText(Pattern);
+
+impl fmt::Display for NumbersText {
     fn fmt<W: fmt::Write>(&self, f: &mut fmt::Formatter<W>) -> fmt::Result {
-        if self.2 == 0 {
-            return write!(f, "always");
+        let values = self.0.value.to_be_bytes();
+        let masks = self.0.mask.to_be_bytes();
+        let width = self.0.width.min(values.len());
+        if width == 0 {
+            return f.write_char('-');
         }
-        let values = self.0.to_be_bytes();
-        let masks = self.1.to_be_bytes();
-        let width = self.2.min(values.len());
-        let (values, masks) = (&values[..width], &masks[..width]);
-        write!(f, "{} / {}", Hex(values), Hex(masks))?;
-        for (value, mask) in values.iter().zip(masks.iter()) {
-            write!(f, "  {}", BitsText(*value, *mask))?;
+        write!(f, "{} / {}", Hex(&values[..width]), Hex(&masks[..width]))
+    }
+}
+
+// A pattern bit by bit, the bytes apart.
+#[derive(Clone, Copy)]
+struct PatternBitsText(Pattern);
+
+impl fmt::Display for PatternBitsText {
+    fn fmt<W: fmt::Write>(&self, f: &mut fmt::Formatter<W>) -> fmt::Result {
+        if self.0.width == 0 {
+            return f.write_str("always");
+        }
+        let values = self.0.value.to_be_bytes();
+        let masks = self.0.mask.to_be_bytes();
+        let bytes = values.iter().zip(masks.iter()).take(self.0.width);
+        for (place, (value, mask)) in bytes.enumerate() {
+            if place > 0 {
+                f.write_char(' ')?;
+            }
+            write!(f, "{}", BitsText(*value, *mask))?;
         }
         Ok(())
     }

@@ -11,7 +11,7 @@ use std::io;
 use walker::walk::{MOST_MARKS, walk};
 use walks::outcome::Outcome;
 
-const NO_MARK: Mark = Mark {
+pub(crate) const NO_MARK: Mark = Mark {
     node: 0,
     kind: 0,
     offset: 0,
@@ -72,6 +72,12 @@ fn print_walk<'a>(
 }
 
 fn print_mark(rt: &impl Print, mark: &Mark) -> io::Result<()> {
+    write_mark(rt, mark)?;
+    println!(rt; "")
+}
+
+// Prints a mark, and does not end the line.
+pub(crate) fn write_mark(rt: &impl Print, mark: &Mark) -> io::Result<()> {
     let Mark {
         node,
         kind,
@@ -79,18 +85,22 @@ fn print_mark(rt: &impl Print, mark: &Mark) -> io::Result<()> {
         length,
     } = *mark;
     match Kind::try_from(kind) {
-        Ok(kind) => println!(rt; "{node:>4}  {kind:<8}  {offset:>6}  {length:>6}"),
-        Err(_) => println!(rt; "{node:>4}  unknown   {offset:>6}  {length:>6}"),
+        Ok(kind) => print!(rt; "{node:>4}  {kind:<8}  {offset:>6}  {length:>6}"),
+        Err(_) => print!(rt; "{node:>4}  unknown   {offset:>6}  {length:>6}"),
     }
 }
 
 // Where the payload begins and how long it is, or the number by which the walk ended.
-fn print_outcome<'a>(rt: &impl Print, packet: &[u8], outcome: Outcome) -> Result<(), Failure<'a>> {
+pub(crate) fn print_outcome<'a>(
+    rt: &impl Print,
+    packet: &[u8],
+    outcome: Outcome,
+) -> Result<(), Failure<'a>> {
     match outcome.refusal() {
         Some(refusal) => println!(rt; "ended: {refusal}")?,
         None => {
             let offset = outcome.offset;
-            let length = payload(packet, offset as usize)
+            let length = payload(packet, usize::from(offset))
                 .map_err(Refusal::from)?
                 .len();
             println!(rt; "done: payload at {offset}, {length} bytes")?;

@@ -1,6 +1,6 @@
 -- In a sound graph a row leads to a later node of the graph.
 use Rattle.std.specs.Option.{option_map}
-use Rattle.std.proofs.Common.{◌≡◌, ℕ, suc, ◌+◌, ◌/◌, ◌^◌, ◌<◌, Bool, true, false, cond, List, [], ◌∷◌, length, Some, None, Option, ap, inl, inr, arith}
+use Rattle.std.proofs.Common.{◌≡◌, ℕ, ◌/◌, ◌^◌, ◌<◌, List, length, Some, None, Option, ap, inl, inr, arith}
 use Rattle.std.proofs.lemmas.List.{get_or_past}
 use Rattle.std.proofs.lemmas.Bool.{cases_lt}
 use Rattle.std.proofs.lemmas.List.Quantifiers.{position-Some}
@@ -12,7 +12,7 @@ use Rattle.patterns.specs.Finding.{row_fits}
 use Rattle.graphs.specs.declared.fault.GraphFault.TheVariants.{Target as AtTarget}
 use Rattle.graphs.specs.View.{RowsView, ternary_rows, range_rows, NodeView, node_at, row_count, target_of}
 use Rattle.graphs.specs.Deciding.{fitting, decide}
-use Rattle.walker.specs.Refusals.{Sound}
+use Rattle.walker.specs.Refusals.{NoFault}
 
 -- a deciding row is a row of the list
 fitting_below : (rows : RowsView) (key k : ℕ) → fitting rows key ≡ Some k → k < row_count rows
@@ -30,7 +30,7 @@ decided rows key t e = from (fitting rows key) (fitting_below rows key) e
     from (Some k) below s = (k, below k (cc), cc)
 
 -- a node that the row of another leads to
-pub leads_later : (minimum : Kind → ℕ) (g : List NodeView) → Sound minimum g
+pub leads_later : (minimum : Kind → ℕ) (g : List NodeView) → NoFault minimum g
     → (n key t : ℕ) → decide (node_at g n).rows key ≡ Some (to.Node t) → (n < t) × (t < length g)
 leads_later minimum g sound n key t e =
     let (k, l, s) = decided (node_at g n).rows key (to.Node t) e in

@@ -8,7 +8,7 @@ use Rattle.walks.specs.declared.outcome.Outcome.{Outcome}
 use Rattle.walks.specs.Walk.{Walk, PlainWalk}
 use Rattle.walks.specs.Rows.{answer_by}
 use Rattle.walks.proofs.Once.{one_walk}
-use Rattle.walker.specs.Refusals.{Sound}
+use Rattle.walker.specs.Refusals.{most_marks, NoFault}
 use Rattle.walker.specs.Steps.{GoesOn}
 use Rattle.walker.specs.Walked.{WalkedAs}
 use Rattle.walker.proofs.Later.{leads_later}
@@ -49,7 +49,7 @@ module _ (minimum : Kind → ℕ) (g : List NodeView) (p : List ℕ) (before : L
           written = w.stand ∙ ap (λ i. w.ws ++ drop i before) (sym w.many);
         }
 
-    module _ (m : Mark) (room : 32 ≤ length before) where
+    module _ (m : Mark) (room : most_marks ≤ length before) where
       written_more : set now k m ≡ (w.ws ++ m ∷ []) ++ drop (k + 1) before
       written_more = put w.ws before now k m w.stand w.many (omega (arith, w.few, w.low))
 
@@ -66,7 +66,7 @@ module _ (minimum : Kind → ℕ) (g : List NodeView) (p : List ℕ) (before : L
           }
 
       -- it goes on behind one
-      module _ (sound : Sound minimum g) (next past : ℕ) (on : GoesOn minimum g p n at m next past) where
+      module _ (sound : NoFault minimum g) (next past : ℕ) (on : GoesOn minimum g p n at m next past) where
         pub node_after : (n < next) × (next < length g)
         node_after = leads_later minimum g sound n _ next on.decides
 

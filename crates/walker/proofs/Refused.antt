@@ -15,7 +15,7 @@ use Rattle.graph_reader.proofs.Refused.{graph_ranks}
 use Rattle.walker.specs.declared.fault.WalkFault.{WalkFault}
 use Rattle.walker.specs.declared.fault.WalkFault.TheVariants.{Graph, LongPacket, FewMarks}
 use Rattle.walker.specs.Faults.{of_walk}
-use Rattle.walker.specs.Refusals.{WalkApplies, walk_fault, Sound}
+use Rattle.walker.specs.Refusals.{most_bytes, most_marks, WalkApplies, walk_fault, NoFault}
 
 module _ (minimum : Kind → ℕ) (g : List NodeView) (size room : ℕ) where
   abbrev order : WalkFault → WalkFault → Type 0
@@ -25,23 +25,23 @@ module _ (minimum : Kind → ℕ) (g : List NodeView) (size room : ℕ) where
   OfGraph e = (x : GraphFault) × (e ≡ Graph x) × GraphApplies minimum g x
 
   abbrev OfPacket : WalkFault → Type 0
-  OfPacket e = (e ≡ LongPacket) × (leb size 9600 ≡ false)
+  OfPacket e = (e ≡ LongPacket) × (leb size most_bytes ≡ false)
 
   abbrev OfMarks : WalkFault → Type 0
-  OfMarks e = (e ≡ FewMarks) × (leb 32 room ≡ false)
+  OfMarks e = (e ≡ FewMarks) × (leb most_marks room ≡ false)
 
   abbrev Told : WalkFault → Type 0
   Told e = OfGraph e ⊎ (OfPacket e ⊎ OfMarks e)
 
   spoken : (e : WalkFault) → Told e → WalkApplies minimum g size room e
   spoken e (inl (x, s, h)) = subst (WalkApplies minimum g size room) (sym s) h
-  spoken e (inr (inl (s, h))) = subst (WalkApplies minimum g size room) (sym s) (leb-false size 9600 h)
-  spoken e (inr (inr (s, h))) = subst (WalkApplies minimum g size room) (sym s) (leb-false 32 room h)
+  spoken e (inr (inl (s, h))) = subst (WalkApplies minimum g size room) (sym s) (leb-false size most_bytes h)
+  spoken e (inr (inr (s, h))) = subst (WalkApplies minimum g size room) (sym s) (leb-false most_marks room h)
 
   applied : (e : WalkFault) → WalkApplies minimum g size room e → Told e
   applied (Graph x) h = inl (x, refl, h)
-  applied LongPacket h = inr (inl (refl, lt-leb size 9600 h))
-  applied FewMarks h = inr (inr (refl, lt-leb 32 room h))
+  applied LongPacket h = inr (inl (refl, lt-leb size most_bytes h))
+  applied FewMarks h = inr (inr (refl, lt-leb most_marks room h))
 
   walk_lowest : Lowest order (WalkApplies minimum g size room) (walk_fault minimum g size room)
   walk_lowest =
@@ -51,13 +51,13 @@ module _ (minimum : Kind → ℕ) (g : List NodeView) (size room : ℕ) where
         | inl w ↦ inl (omega (arith, ap (λ x. rank (of_walk x)) p.1, graph_ranks p.0, ap (λ x. rank (of_walk x)) w.0))
         | inr w ↦ inl (omega (arith, ap (λ x. rank (of_walk x)) p.1, graph_ranks p.0, ap (λ x. rank (of_walk x)) w.0))
       ])
-      (option_map Graph (graph_fault minimum g)) (option_or (unless (leb size 9600) LongPacket) (unless (leb 32 room) FewMarks))
+      (option_map Graph (graph_fault minimum g)) (option_or (unless (leb size most_bytes) LongPacket) (unless (leb most_marks room) FewMarks))
       (lowest_mapped order Graph (GraphApplies minimum g) (graph_fault minimum g) (graph_lowest minimum g))
       (lowest_or order OfPacket OfMarks
       (λ e d p q. inl (omega (arith, ap (λ x. rank (of_walk x)) p.0, ap (λ x. rank (of_walk x)) q.0)))
-      (unless (leb size 9600) LongPacket) (unless (leb 32 room) FewMarks)
-      (lowest_unless order (leb size 9600) LongPacket (inr (refl, inr (refl, omega arith))))
-      (lowest_unless order (leb 32 room) FewMarks (inr (refl, inr (refl, omega arith))))))
+      (unless (leb size most_bytes) LongPacket) (unless (leb most_marks room) FewMarks)
+      (lowest_unless order (leb size most_bytes) LongPacket (inr (refl, inr (refl, omega arith))))
+      (lowest_unless order (leb most_marks room) FewMarks (inr (refl, inr (refl, omega arith))))))
 
   -- a fault that is told is the least
   pub told_least : (e d : WalkFault) → e ≡ d → Some d ≡ walk_fault minimum g size room → Least of_walk (WalkApplies minimum g size room) e
@@ -70,11 +70,11 @@ module _ (minimum : Kind → ℕ) (g : List NodeView) (size room : ℕ) where
     pub none_applies : (e : WalkFault) → WalkApplies minimum g size room e → ⊥
     none_applies = subst (Lowest order (WalkApplies minimum g size room)) (sym clear) walk_lowest
 
-    pub graph_sound : Sound minimum g
+    pub graph_sound : NoFault minimum g
     graph_sound e h = none_applies (Graph e) h
 
-    pub packet_fits : size ≤ 9600
-    packet_fits = elim (cases_lt 9600 size) [ inl h ↦ absurd (none_applies LongPacket h) | inr h ↦ h ]
+    pub packet_fits : size ≤ most_bytes
+    packet_fits = elim (cases_lt most_bytes size) [ inl h ↦ absurd (none_applies LongPacket h) | inr h ↦ h ]
 
-    pub marks_suffice : 32 ≤ room
-    marks_suffice = elim (cases_lt room 32) [ inl h ↦ absurd (none_applies FewMarks h) | inr h ↦ h ]
+    pub marks_suffice : most_marks ≤ room
+    marks_suffice = elim (cases_lt room most_marks) [ inl h ↦ absurd (none_applies FewMarks h) | inr h ↦ h ]

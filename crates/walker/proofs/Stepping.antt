@@ -1,5 +1,5 @@
 -- What the checks of a header and its deciding row say of the walk.
-use Rattle.std.proofs.Common.{◌≡◌, ℕ, Bool, true, false, ltb, List, [], length, Some, None, Option, sym, refl, ap, ◌∙◌, subst, arith}
+use Rattle.std.proofs.Common.{◌≡◌, ℕ, ◌+◌, ◌≤◌, min, Bool, true, false, ltb, List, [], length, Some, None, Option, sym, refl, ap, ap₂, ◌∙◌, subst, arith}
 use Rattle.std.proofs.lemmas.Bool.{both_ways, ltb-true, ltb-false}
 use Rattle.headers.specs.declared.kinds.Kind.{Kind}
 use Rattle.headers.specs.declared.mark.Mark.{Mark}
@@ -17,7 +17,7 @@ use Rattle.walks.specs.Turning.{held, checked}
 use Rattle.walks.proofs.Steps.{decides_held}
 use Rattle.walker.specs.declared.step.Step.{Step}
 use Rattle.walker.specs.Headers.{header_refusal, key_of}
-use Rattle.walker.specs.Steps.{step_to, Stepped}
+use Rattle.walker.specs.Steps.{marked, step_at, step_to, Stepped}
 
 module _ (minimum : Kind → ℕ) (g : List NodeView) (p : List ℕ) (n at : ℕ) where
   abbrev v : NodeView
@@ -62,8 +62,11 @@ module _ (minimum : Kind → ℕ) (g : List NodeView) (p : List ℕ) (n at : ℕ
         ap (λ m. header_refusal p at m here.len places) fewest ∙ ap (header_refusal p at (minimum here.kind) here.len) named
         ∙ ap (λ x. header_refusal p at (minimum x.kind) x.len x.places) is
 
+    pub node_fails : (e : Ending) → Some e ≡ header_refusal p at least here.len places → Refused minimum g p n at e
+    node_fails e s = refused_by_lem _ _ _ refl refl refl e (s ∙ told)
+
     pub node_refused : (e : Ending) → Some e ≡ header_refusal p at least here.len places → Walk minimum g p n at [] (outcome e n at)
-    node_refused e s = walk.refused (refused_by_lem _ _ _ refl refl refl e (s ∙ told))
+    node_refused e s = walk.refused (node_fails e s)
 
     pub node_passes : None ≡ header_refusal p at least here.len places → Header minimum g p n at
     node_passes s = header_by _ _ _ refl refl refl (s ∙ told)
@@ -72,12 +75,22 @@ module _ (minimum : Kind → ℕ) (g : List NodeView) (p : List ℕ) (n at : ℕ
       pub size_is : size ≡ size_at g p n at
       size_is = measures ∙ ap (λ x. measured x.len p at) is
 
-      pub node_decides : None ≡ header_refusal p at least here.len places
-          → (m : Mark) → m ≡ record { node = n; kind = kind_number here.kind; offset = at; length = size } → (key : ℕ) → key ≡ key_of p at places → (o : Option Target) → o ≡ decide v.rows key
-          → (s : Step) → s ≡ step_to m o → Stepped minimum g p n at s
-      node_decides none m marks key spells o decides s leads =
-          let mark : m ≡ mark_at g p n at =
-          marks ∙ ap (λ x. record { node = n; kind = kind_number x.kind; offset = at; length = size }) is
-          ∙ ap (λ l. record { node = n; kind = kind_number v.kind; offset = at; length = l }) size_is in
-          let target : decide_at g p n at ≡ o = ap (decide v.rows) (sym (spells ∙ ap (key_of p at) named ∙ ap (λ x. key_of p at x.places) is)) ∙ sym decides in
-          subst (Stepped minimum g p n at) (sym (leads ∙ ap (λ m. step_to m o) mark)) (decided_by (node_passes none) o target)
+      -- in a packet that is not long
+      module _ (none : None ≡ header_refusal p at least here.len places) (short : length p ≤ 9600) where
+        passes : Header minimum g p n at
+        passes = node_passes none
+
+        marked_is : marked n here.kind at size ≡ mark_at g p n at
+        marked_is =
+            let a : min at 65535 ≡ at = omega (arith, passes.within) in
+            let b : min size 65535 ≡ size_at g p n at = omega (arith, passes.within, size_is) in
+            ap₂ (λ o l. record { node = n; kind = kind_number here.kind; offset = o; length = l }) a b
+            ∙ ap (λ x. record { node = n; kind = kind_number x.kind; offset = at; length = size_at g p n at }) is
+
+        pub node_decides : (m : Mark) → m ≡ marked n here.kind at size → (key : ℕ) → key ≡ key_of p at places → (o : Option Target) → o ≡ decide v.rows key
+            → (s : Step) → s ≡ step_at m o (min (m.offset + m.length) 65535) → Stepped minimum g p n at s
+        node_decides m marks key spells o decides s leads =
+            let mark : m ≡ mark_at g p n at = marks ∙ marked_is in
+            let past_is : min (m.offset + m.length) 65535 ≡ m.offset + m.length = omega (arith, ap (λ x. x.offset + x.length) mark, passes.within) in
+            let target : decide_at g p n at ≡ o = ap (decide v.rows) (sym (spells ∙ ap (key_of p at) named ∙ ap (λ x. key_of p at x.places) is)) ∙ sym decides in
+            subst (Stepped minimum g p n at) (sym (leads ∙ ap (step_at m o) past_is ∙ ap (λ m. step_to m o) mark)) (decided_by passes o target)

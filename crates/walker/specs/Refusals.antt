@@ -10,17 +10,24 @@ use Rattle.graphs.specs.Checking.{graph_fault}
 use Rattle.walker.specs.declared.fault.WalkFault.{WalkFault}
 use Rattle.walker.specs.declared.fault.WalkFault.TheVariants.{Graph, LongPacket, FewMarks}
 
+-- the most bytes of a packet that is walked, and the most marks that a walk writes
+abbrev pub most_bytes : ℕ
+most_bytes = 9600
+
+abbrev pub most_marks : ℕ
+most_marks = 32
+
 module _ (minimum : Kind → ℕ) (g : List NodeView) where
   -- in words: a fault of the graph; a packet of more than 9,600 bytes; room for fewer than 32 marks
   abbrev pub WalkApplies : (size room : ℕ) → WalkFault → Type 0
   WalkApplies size room (Graph e) = GraphApplies minimum g e
-  WalkApplies size room LongPacket = 9600 < size
-  WalkApplies size room FewMarks = room < 32
+  WalkApplies size room LongPacket = most_bytes < size
+  WalkApplies size room FewMarks = room < most_marks
 
   -- the first of them, as a test
   abbrev pub walk_fault : (size room : ℕ) → Option WalkFault
-  walk_fault size room = option_or (option_map Graph (graph_fault minimum g)) (option_or (unless (nat_le size 9600) LongPacket) (unless (nat_le 32 room) FewMarks))
+  walk_fault size room = option_or (option_map Graph (graph_fault minimum g)) (option_or (unless (nat_le size most_bytes) LongPacket) (unless (nat_le most_marks room) FewMarks))
 
   -- no fault of a graph applies
-  abbrev pub Sound : Type 0
-  Sound = (e : GraphFault) → GraphApplies minimum g e → ⊥
+  abbrev pub NoFault : Type 0
+  NoFault = (e : GraphFault) → GraphApplies minimum g e → ⊥

@@ -31,7 +31,7 @@ impl From<WalkFault> for Refusal {
 impl From<GraphFault> for WalkFault {
     ghost from_gives = { λ e r. r ≡ Graph e };
 
-    fn from(fault: GraphFault) -> WalkFault {
-        WalkFault::Graph(fault)
+    fn from(why: GraphFault) -> WalkFault {
+        WalkFault::Graph(why)
     }
 }

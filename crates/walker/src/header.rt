@@ -109,8 +109,8 @@ impl<'a> HeaderAt<'a> {
     fn looked_up(&self, places: &[u8], i: usize) -> u8
         ensures { result ≡ slice_index (map (λ place. byte_at self.now.packet.now (self.now.at + place)) places.now) i }
     {
-        // Of a closure over the header neither `map` nor `map_or` promises what it answers, so the two
-        // cases stand here.
+        // Tried: of a closure over the header neither `map` nor `map_or` promises what it answers, so the
+        // two cases stand here.
         match places.get(i) {
             Some(place) => self.byte(*place),
             None => 0,

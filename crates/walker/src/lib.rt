@@ -4,5 +4,5 @@
 
 pub mod fault;
 pub mod header;
-mod step;
+pub mod step;
 pub mod walk;

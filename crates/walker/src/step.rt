@@ -1,9 +1,9 @@
 // One step of a walk: a header, and where the deciding row leads.
-ghost use Rattle.std.specs.Prelude.{◌≡◌, ◌+◌, ◌≤◌, length};
-ghost use Rattle.headers.specs.Kinds.{kind_number};
+ghost use Rattle.std.specs.Prelude.{◌≡◌, ◌+◌, ◌≤◌, min, length};
 ghost use Rattle.headers.specs.Table.{minimum_in};
 ghost use Rattle.graphs.specs.View.{graph_view};
-ghost use Rattle.walker.specs.Steps.{step_to, Stepped};
+ghost use Rattle.walker.specs.Refusals.{most_bytes};
+ghost use Rattle.walker.specs.Steps.{marked, step_at, Stepped};
 
 use crate::header::HeaderAt;
 use graphs::graph::Graph;
@@ -15,7 +15,8 @@ use walks::outcome::{Ending, Outcome};
 
 /// What a step comes to: the header is refused; it is marked and the walk ends there; or it is
 /// marked and the walk goes on at a node and an offset.
-pub(crate) enum Step {
+#[derive(Clone, Copy)]
+pub enum Step {
     Stop(Outcome),
     Last { mark: Mark, outcome: Outcome },
     On { mark: Mark, node: u8, at: u32 },
@@ -32,7 +33,7 @@ pub(crate) struct Course<'a> {
 impl<'a> Course<'a> {
     /// One step from a node at an offset. A refused header stops the walk.
     pub(crate) fn step(&self, node: u8, at: u32) -> Step
-        requires { (at ≤ length self.now.packet.now) × (length self.now.packet.now ≤ 9600) }
+        requires { (at ≤ length self.now.packet.now) × (length self.now.packet.now ≤ most_bytes) }
         ensures steps { Stepped (minimum_in self.now.table.now) (graph_view self.now.graph.now) self.now.packet.now node at result }
         ensures few { length (graph_view self.now.graph.now) ≤ 32 }
     {
@@ -56,25 +57,30 @@ impl<'a> Course<'a> {
     }
 }
 
-// The mark of a header.
-fn mark_of(node: u8, kind: Kind, at: u32, size: u32) -> Mark
-    requires { at + size ≤ 9600 }
-    ensures { result ≡ record { node = node; kind = kind_number kind; offset = at; length = size } }
+/// A number as a mark tells it: 65,535 for each that is above.
+pub fn told(number: u32) -> u16
+    ensures { result ≡ min number 65535 }
+{
+    number.min(65535) as u16
+}
+
+/// The mark of a header.
+pub fn mark_of(node: u8, kind: Kind, at: u32, size: u32) -> Mark
+    ensures { result ≡ marked node kind at size }
 {
     Mark {
         node,
         kind: u8::from(kind),
-        offset: at as u16,
-        length: size as u16,
+        offset: told(at),
+        length: told(size),
     }
 }
 
-// Where the target of the deciding row leads behind a marked header.
-fn follow(mark: Mark, target: Option<Target>) -> Step
-    requires { mark.offset + mark.length ≤ 9600 }
-    ensures { result ≡ step_to mark target }
+/// Where the target of the deciding row leads behind a marked header, at 65,535 if that is further.
+pub fn follow(mark: Mark, target: Option<Target>) -> Step
+    ensures { result ≡ step_at mark target (min (mark.offset + mark.length) 65535) }
 {
-    let past = mark.offset + mark.length;
+    let past = mark.offset.saturating_add(mark.length);
     match target {
         None => last(mark, Ending::Unfit, mark.offset),
         Some(Target::Dropped) => last(mark, Ending::Dropped, mark.offset),
@@ -82,7 +88,7 @@ fn follow(mark: Mark, target: Option<Target>) -> Step
         Some(Target::Node(node)) => Step::On {
             mark,
             node,
-            at: past as u32,
+            at: u32::from(past),
         },
     }
 }

@@ -5,7 +5,7 @@ ghost use Rattle.refusals.specs.Least.{Answers};
 ghost use Rattle.headers.specs.Table.{minimum_in, standard_table};
 ghost use Rattle.graphs.specs.View.{graph_view};
 ghost use Rattle.walker.specs.Faults.{of_walk};
-ghost use Rattle.walker.specs.Refusals.{WalkApplies, Sound, walk_fault};
+ghost use Rattle.walker.specs.Refusals.{most_bytes, most_marks, WalkApplies, walk_fault, NoFault};
 ghost use Rattle.walker.specs.Walked.{WalkedAs};
 
 use crate::fault::WalkFault;
@@ -34,6 +34,7 @@ pub struct Walked {
 /// graph, then by 10 if the packet has more than 9,600 bytes, then by 11 if there are fewer than
 /// 32 marks; a refused call changes nothing.
 pub fn walk(graph: &Graph, packet: &[u8], marks: &mut [Mark]) -> Result<Walked, WalkFault>
+    ensures is { fault_of result ≡ walk_fault (minimum_in standard_table) (graph_view graph.now) (length packet.now) (length marks.old) }
     ensures answers { Answers of_walk (WalkApplies (minimum_in standard_table) (graph_view graph.now) (length packet.now) (length marks.old)) (WalkedAs (minimum_in standard_table) (graph_view graph.now) packet.now marks.old marks.new) result }
     ensures kept { OnErr result (marks.new ≡ marks.old) }
 {
@@ -48,6 +49,7 @@ pub fn walk_by(
     packet: &[u8],
     marks: &mut [Mark],
 ) -> Result<Walked, WalkFault>
+    ensures is { fault_of result ≡ walk_fault (minimum_in table.now) (graph_view graph.now) (length packet.now) (length marks.old) }
     ensures answers { Answers of_walk (WalkApplies (minimum_in table.now) (graph_view graph.now) (length packet.now) (length marks.old)) (WalkedAs (minimum_in table.now) (graph_view graph.now) packet.now marks.old marks.new) result }
     ensures kept { OnErr result (marks.new ≡ marks.old) }
 {
@@ -77,9 +79,9 @@ fn first_fault(table: &KindTable, graph: &Graph, size: usize, room: usize) -> Re
 impl<'a> Course<'a> {
     // The walk itself, through a sound graph.
     fn walk(&self, marks: &mut [Mark]) -> Walked
-        requires sound { Sound (minimum_in self.now.table.now) (graph_view self.now.graph.now) }
-        requires fits { length self.now.packet.now ≤ 9600 }
-        requires room { 32 ≤ length marks.old }
+        requires sound { NoFault (minimum_in self.now.table.now) (graph_view self.now.graph.now) }
+        requires fits { length self.now.packet.now ≤ most_bytes }
+        requires room { most_marks ≤ length marks.old }
         ensures { WalkedAs (minimum_in self.now.table.now) (graph_view self.now.graph.now) self.now.packet.now marks.old marks.new result }
     {
         let mut node = 0;

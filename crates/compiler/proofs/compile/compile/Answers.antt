@@ -1,8 +1,8 @@
-use Rattle.std.proofs.Common.{subst}
+use Rattle.std.proofs.Common.{ap, ◌∙◌, subst}
 use Rattle.refusals.specs.Least.{Answers}
 use Rattle.headers.specs.Table.{minimum_in}
 use Rattle.compiler.specs.Faults.{of_load}
-use Rattle.compiler.specs.Loading.{LoadApplies, Loaded}
+use Rattle.compiler.specs.Loading.{LoadApplies, load_fault, Loaded}
 use Rattle.compiler.proofs.compile.compile.Goals as goal
 
 pub returns : goal.returns
@@ -12,6 +12,7 @@ returns g c =
     let before = g.S.Store.meaning c.args.store.now in
     let after = g.S.Store.meaning c.compile_by.new.store in
     record {
+      is = c.compile_by.ensures.is ∙ ap (λ table. load_fault (minimum_in table) f p before.capacity) c.standard.ensures;
       answers =
           subst (λ table. Answers of_load (LoadApplies (minimum_in table) f p before.capacity) (λ _. Loaded (minimum_in table) f p before after c.compile_by.new.program) c.compile_by.result)
           c.standard.ensures c.compile_by.ensures.answers;

@@ -6,12 +6,12 @@ use Rattle.walks.specs.Plans.{Lawful}
 use Rattle.plans.proofs.Chaining.{chain_past}
 use Rattle.compiler.specs.declared.fault.LoadFault.{LoadFault}
 use Rattle.compiler.specs.Programs.{Stands}
-use Rattle.compiler.specs.Loading.{LoadApplies, storing}
+use Rattle.compiler.specs.Loading.{LoadApplies, load_fault, storing}
 use Rattle.compiler.proofs.compile.compile_by.Goals as goal
 
 pub load-requires : goal.load-requires
 load-requires g c =
-    let l = c.in_ok-checked.ensures.1 in
+    let l = c.in_ok-checked.ensures.answers.1 in
     record {
       few = l.few;
       room = omega (arith, l.room, c.capacity.ensures);
@@ -21,12 +21,13 @@ load-requires g c =
 pub returns : goal.returns
 returns g c =
     let checked = c.in_ok-checked.ensures in
-    let l = checked.1 in
+    let l = checked.answers.1 in
     let gr = graph_view c.in_ok-checked.checked.graph in
     let m = g.S.Store.meaning c.args.store.now in
     record {
+      is = checked.is ∙ ap (load_fault (minimum_in c.args.table.now) c.args.file.now c.args.plan.now) c.capacity.ensures;
       answers = (
-        subst (λ n. (e : LoadFault) → LoadApplies (minimum_in c.args.table.now) c.args.file.now c.args.plan.now n e → ⊥) c.capacity.ensures checked.0,
+        subst (λ n. (e : LoadFault) → LoadApplies (minimum_in c.args.table.now) c.args.file.now c.args.plan.now n e → ⊥) c.capacity.ensures checked.answers.0,
         record {
           graph = gr;
           read = l.read;

@@ -1,5 +1,6 @@
-use Rattle.std.proofs.Common.{length, refl}
+use Rattle.std.proofs.Common.{Some, length, refl, ap, ◌∙◌}
 use Rattle.std.proofs.lemmas.Result.{err_from_is_err_and}
+use Rattle.refusals.specs.Searching.{fault_of}
 use Rattle.headers.specs.Table.{minimum_in}
 use Rattle.graphs.specs.View.{graph_view}
 use Rattle.walker.proofs.Refused.{told_least, none_applies, graph_sound, packet_fits, marks_suffice}
@@ -9,6 +10,7 @@ pub returns-in_err-first_fault : goal.returns-in_err-first_fault
 returns-in_err-first_fault c =
     let p = err_from_is_err_and c.from_residual.result c.from_residual.ensures.1 in
     record {
+      is = ap fault_of p.1 ∙ ap Some p.2 ∙ c.in_err-first_fault.ensures;
       answers =
           rw p.1
           (told_least (minimum_in c.args.table.now) (graph_view c.args.graph.now) (length c.args.packet.now) (length c.args.marks.now) p.0
@@ -28,6 +30,7 @@ walk-requires c =
 pub returns : goal.returns
 returns c =
     record {
+      is = c.in_ok-first_fault.ensures;
       answers = (
         none_applies (minimum_in c.args.table.now) (graph_view c.args.graph.now) (length c.args.packet.now) (length c.args.marks.now) c.in_ok-first_fault.ensures,
         c.walk.ensures,

@@ -2,7 +2,7 @@ use Rattle.std.proofs.Common.{◌+◌, sym, refl, ◌∙◌}
 use Rattle.std.proofs.lemmas.Bool.{eqb-true, eqb-false}
 use Rattle.graphs.specs.View.{graph_view}
 use Rattle.plans.specs.Chains.{chain_of}
-use Rattle.walks.specs.Rows.{chain_rows}
+use Rattle.walks.specs.Rows.{chain_base, chain_rows}
 use Rattle.compiler.specs.Sinks.{sink_of, line_of}
 use Rattle.compiler.proofs.Sinking.{going_same, going_on, going_rooms}
 use Rattle.compiler.proofs.Filling.{rows_more, path_rows, chain_none, chain_some}
@@ -33,7 +33,7 @@ fill_state-requires-clause-room g c =
     let same = path.behind ∙ c.named_nodes.ensures.is ∙ c.chain-chain.ensures in
     let some =
     chain_some gr chain n c.new-path.result.behind.now same (eqb-false _ 0 (sym c.is_empty.ensures ∙ c.if-is_empty.false))
-    ∙ path_rows (32 + n) c.new-path.result c.args.checked.now.graph path.graph path.node refl in
+    ∙ path_rows (chain_base + n) c.new-path.result c.args.checked.now.graph path.graph path.node refl in
     going_rooms s line_of _ _ _ (going_same s _ _ _ (rows_more (chain_rows gr chain) n c.size-node-end.result some c.loop-node-test.true) c.loop-node.invariant.going)
 
 pub loop-node-preserved : goal.loop-node-preserved
@@ -48,7 +48,7 @@ loop-node-preserved g c =
     let same = path.behind ∙ c.named_nodes.ensures.is ∙ c.chain-chain.ensures in
     let some =
     chain_some gr chain n c.new-path.result.behind.now same (eqb-false _ 0 (sym c.is_empty.ensures ∙ c.if-is_empty.false))
-    ∙ path_rows (32 + n) c.new-path.result c.args.checked.now.graph path.graph path.node refl in
+    ∙ path_rows (chain_base + n) c.new-path.result c.args.checked.now.graph path.graph path.node refl in
     record {
       store = e.store ∙ i.store;
       actions = e.actions ∙ i.actions;

@@ -1,0 +1,8 @@
+// A packet read by questions to a ternary store.
+
+#![tactic(auto)]
+
+mod behind;
+mod front;
+pub mod read;
+mod turn;

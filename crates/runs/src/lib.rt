@@ -1,0 +1,7 @@
+// Calls on a tap, one after the other, and two taps side by side.
+
+#![tactic(auto)]
+
+pub mod calls;
+pub mod run;
+pub mod side;

@@ -1,0 +1,173 @@
+// Two taps side by side, as a person reads them: one graph, two plans, the same packets.
+use captures::fault::CaptureFault;
+use captures::format::{HEADER, is_capture, open};
+use captures::records::Records;
+use console::failure::Failure;
+use readers::read::Reading;
+use refusals::refusal::Refusal;
+use runs::calls::{Call, Reply};
+use runs::side::side_by_side;
+use std::alloc::Global;
+use std::io;
+use stores::listing::Listing;
+use taps::fault::ReadFault;
+use walker::walk::MOST_MARKS;
+
+/// A graph file, the plans of two taps, and the packets that both read: a capture, or one packet.
+#[derive(Clone, Copy)]
+pub struct Comparison<'a> {
+    pub file: &'a [u8],
+    pub left: &'a [u8],
+    pub right: &'a [u8],
+    pub packets: &'a [u8],
+}
+
+// The questions that two taps put, one beside the other.
+#[derive(Clone, Copy)]
+struct Questions {
+    left: u64,
+    right: u64,
+}
+
+impl<'a> Comparison<'a> {
+    /// Loads the graph with each plan into a tap of its own, reads the packets by both, and prints what
+    /// each packet is read as and how many questions each tap puts. Refused by 1 to 9 as the first load
+    /// that is refused. Fails where the capture is cut or not of Ethernet, once what came before is
+    /// printed.
+    pub fn print<'f>(&self, rt: &(impl Print + AllocGlobal)) -> Result<(), Failure<'f>> {
+        let heap = rt.alloc();
+        let mut packets = Vec::new(heap);
+        let cut = self.collect(&mut packets)?;
+        let left = self.calls(heap, self.left, packets.as_slice())?;
+        let right = self.calls(heap, self.right, packets.as_slice())?;
+        let mut left_replies = vec![in heap; Reply::Load(Ok(())); left.len()]?;
+        let mut right_replies = vec![in heap; Reply::Load(Ok(())); right.len()]?;
+        let _taps = side_by_side(
+            Listing::new(),
+            Listing::new(),
+            left.as_slice(),
+            right.as_slice(),
+            left_replies.as_mut_slice(),
+            right_replies.as_mut_slice(),
+        );
+        print_replies(rt, left_replies.as_slice(), right_replies.as_slice())?;
+        cut.map_or(Ok(()), |fault| Err(Failure::Capture(fault)))
+    }
+
+    // The packets, in order, up to one that is cut, whose fault is answered.
+    fn collect<'f>(
+        &self,
+        packets: &mut Vec<&'a [u8]>,
+    ) -> Result<Option<CaptureFault>, Failure<'f>> {
+        if !is_capture(self.packets) {
+            packets.push(self.packets)?;
+            return Ok(None);
+        }
+        let format = open(self.packets)?;
+        for record in Records::new(self.packets, format, HEADER) {
+            match record {
+                Ok(record) => packets.push(record.packet)?,
+                Err(fault) => return Ok(Some(fault)),
+            }
+        }
+        Ok(None)
+    }
+
+    // The calls of a tap: the load, a read for each packet, and a report.
+    fn calls<'f>(
+        &self,
+        heap: Global,
+        plan: &'a [u8],
+        packets: &[&'a [u8]],
+    ) -> Result<Vec<Call<'a>>, Failure<'f>> {
+        let mut calls = Vec::new(heap);
+        let file = self.file;
+        calls.push(Call::Load { file, plan })?;
+        for packet in packets {
+            calls.push(Call::Read {
+                packet: *packet,
+                room: MOST_MARKS,
+            })?;
+        }
+        calls.push(Call::Report)?;
+        Ok(calls)
+    }
+}
+
+// Prints the reads of both taps, packet by packet. Refused as the first load that is refused.
+fn print_replies<'f>(rt: &impl Print, left: &[Reply], right: &[Reply]) -> Result<(), Failure<'f>> {
+    check_load(left)?;
+    check_load(right)?;
+    println!(rt; "packet  headers  questions of both  read as")?;
+    let mut all = Questions { left: 0, right: 0 };
+    let mut number: usize = 0;
+    for (left, right) in left.iter().zip(right.iter()) {
+        if let (Reply::Read { answer: left, .. }, Reply::Read { answer: right, .. }) = (
+            left, right,
+        ) {
+            let asked = print_read(rt, number, left, right)?;
+            all.left = all.left.saturating_add(asked.left);
+            all.right = all.right.saturating_add(asked.right);
+            number = number.saturating_add(1);
+        }
+    }
+    Ok(print_total(rt, all)?)
+}
+
+// Refused if the load was.
+fn check_load<'f>(replies: &[Reply]) -> Result<(), Failure<'f>> {
+    match replies.first() {
+        Some(Reply::Load(Err(fault))) => Err(Failure::Refused(Refusal::from(*fault))),
+        _ => Ok(()),
+    }
+}
+
+// Prints what a packet was read as by both taps, and answers the questions of each.
+fn print_read(
+    rt: &impl Print,
+    number: usize,
+    left: &Result<Reading, ReadFault>,
+    right: &Result<Reading, ReadFault>,
+) -> io::Result<Questions> {
+    let mut asked = Questions { left: 0, right: 0 };
+    match (left, right) {
+        (Ok(left), Ok(right)) => {
+            asked.left = u64::from(left.questions);
+            asked.right = u64::from(right.questions);
+            let Questions { left: l, right: r } = asked;
+            let headers = left.marks;
+            print!(rt; "{number:>6}  {headers:>7}  {l:>8} {r:>8}  ")?;
+            if left.outcome != right.outcome || left.marks != right.marks {
+                println!(rt; "not the same by both")?;
+            } else {
+                print_ending(rt, left)?;
+            }
+        }
+        (Err(fault), _) | (_, Err(fault)) => {
+            let refusal = Refusal::from(*fault);
+            println!(rt; "{number:>6}  refused: {refusal}")?;
+        }
+    }
+    Ok(asked)
+}
+
+fn print_ending(rt: &impl Print, reading: &Reading) -> io::Result<()> {
+    match reading.outcome.refusal() {
+        Some(refusal) => println!(rt; "{refusal}"),
+        None => {
+            let offset = reading.outcome.offset;
+            println!(rt; "done: payload at {offset}")
+        }
+    }
+}
+
+// Prints the questions of all reads, and how many in a hundred the second tap saves.
+fn print_total(rt: &impl Print, all: Questions) -> io::Result<()> {
+    let Questions { left, right } = all;
+    let saved = left
+        .saturating_sub(right)
+        .saturating_mul(100)
+        .checked_div(left)
+        .unwrap_or(0);
+    println!(rt; "questions: {left} by the first plan, {right} by the second: {saved} in 100 saved")
+}

@@ -1,0 +1,183 @@
+-- Counts that stop follow counts that do not.
+use Rattle.std.proofs.Common.{◌≡◌, ℕ, ◌+◌, ◌<◌, ◌≤◌, leb, Bool, true, false, cond, eqb, List, [], ◌∷◌, ◌++◌, map, length, Some, None, Option, sym, refl, ap, ◌∙◌, arith, add-zero}
+use Rattle.std.specs.List.{sum_by}
+use Rattle.std.proofs.lemmas.Bool.{leb-true, leb-false, eqb-true, ne_eqb}
+use Rattle.std.proofs.lemmas.List.{append-nil, length-append}
+use Rattle.std.proofs.lemmas.List.Elements.{filter-append}
+use Rattle.std.proofs.lemmas.List.Sums.{sum_by-append}
+use Rattle.headers.specs.declared.kinds.Kind.{Kind}
+use Rattle.headers.specs.declared.kinds.Kind.TheVariants.{Ethernet, Vlan, Mpls, Ipv4, Ipv6, Tcp, Udp, Gre, Icmp, Arp, Other}
+use Rattle.headers.specs.declared.mark.Mark.{Mark}
+use Rattle.headers.specs.Kinds.{kind_number, kind_at, kind_of}
+use Rattle.headers.proofs.KindLaws.{kind_back, number_back}
+use Rattle.walks.specs.declared.outcome.Ending.{Ending}
+use Rattle.walks.specs.declared.outcome.Ending.TheVariants.{Done, Cut, Short, Unfit, Dropped}
+use Rattle.taps.specs.declared.counts.Tally.{Tally}
+use Rattle.taps.specs.declared.counts.Endings.{Endings}
+use Rattle.taps.specs.declared.counts.Report.{Report}
+use Rattle.taps.specs.declared.inner.Inner.{Inner}
+use Rattle.taps.specs.Counts.{Counts, of_kind, marked, counted, capped, tally_of, endings_of, kinds, report_of, raised, one_more}
+use Rattle.taps.specs.Held.{SameButCounts, tallies, report_in, tally_in, with_tally, with_raised, with_mark}
+
+tally : (h n b m : ℕ) → h ≡ n → b ≡ m → ◌≡◌ {A = Tally} (record { headers = h; bytes = b }) (record { headers = n; bytes = m })
+tally h n b m e f = cc
+
+endings : (a b c d e f g h i j : ℕ) → a ≡ f → b ≡ g → c ≡ h → d ≡ i → e ≡ j → ◌≡◌ {A = Endings} (record { done = a; cut = b; short = c; unfit = d; dropped = e }) (record { done = f; cut = g; short = h; unfit = i; dropped = j })
+endings a b c d e f g h i j p q r s t = cc
+
+map_same : (f h : Kind → Tally) → ((k : Kind) → f k ≡ h k) → map f kinds ≡ map h kinds
+map_same f h e = simp e
+
+-- the marks of a kind, where one more is or is not of it
+module _ (ms : List Mark) (m : Mark) (k : Kind) (b : Bool) (e : eqb m.kind (kind_number k) ≡ b) where
+  of_kind_more : of_kind k (ms ++ (m ∷ [])) ≡ of_kind k ms ++ cond b (m ∷ []) []
+  of_kind_more = filter-append (λ (n : Mark). eqb n.kind (kind_number k)) ms (m ∷ []) ∙ ap (λ z. of_kind k ms ++ cond z (m ∷ []) []) e
+
+-- one mark more
+tally_more : (ms : List Mark) (m : Mark) (c : Counts) (k : Kind) (b : Bool) → eqb m.kind (kind_number k) ≡ b
+    → tally_of (marked (ms ++ (m ∷ [])) c) k ≡ cond b (raised m.length (tally_of (marked ms c) k)) (tally_of (marked ms c) k)
+tally_more ms m c k true e =
+    let more = of_kind_more ms m k true e in
+    let headers = ap length more ∙ length-append (of_kind k ms) (m ∷ []) in
+    let bytes = ap (sum_by (λ (n : Mark). n.length)) more ∙ sum_by-append (λ (n : Mark). n.length) (of_kind k ms) (m ∷ []) in
+    tally _ _ _ _ (omega (arith, headers)) (omega (arith, bytes))
+tally_more ms m c k false e =
+    let more = of_kind_more ms m k false e ∙ append-nil (of_kind k ms) in
+    ap (λ ns. record { headers = capped (c.headers k + length ns); bytes = capped (c.bytes k + sum_by (λ (n : Mark). n.length) ns) }) more
+
+-- the tally of a kind is another, and the others are the same
+tally_put : {S : Type 0} (kind : Kind) (i : Inner S) (w : Tally) (f h : Kind → Tally) → tallies i ≡ map f kinds → ((k : Kind) → h k ≡ cond (eqb (kind_number kind) (kind_number k)) w (f k))
+    → tallies (with_tally kind i w) ≡ map h kinds
+tally_put Ethernet i w f h e is = simp is (cc)
+tally_put Vlan i w f h e is = simp is (cc)
+tally_put Mpls i w f h e is = simp is (cc)
+tally_put Ipv4 i w f h e is = simp is (cc)
+tally_put Ipv6 i w f h e is = simp is (cc)
+tally_put Tcp i w f h e is = simp is (cc)
+tally_put Udp i w f h e is = simp is (cc)
+tally_put Gre i w f h e is = simp is (cc)
+tally_put Icmp i w f h e is = simp is (cc)
+tally_put Arp i w f h e is = simp is (cc)
+tally_put Other i w f h e is = simp is (cc)
+
+tally_here : {S : Type 0} (kind : Kind) (i : Inner S) (f : Kind → Tally) → tallies i ≡ map f kinds → tally_in kind i ≡ f kind
+tally_here Ethernet i f e = cc
+tally_here Vlan i f e = cc
+tally_here Mpls i f e = cc
+tally_here Ipv4 i f e = cc
+tally_here Ipv6 i f e = cc
+tally_here Tcp i f e = cc
+tally_here Udp i f e = cc
+tally_here Gre i f e = cc
+tally_here Icmp i f e = cc
+tally_here Arp i f e = cc
+tally_here Other i f e = cc
+
+-- another tally changes nothing else
+put_endings : {S : Type 0} (kind : Kind) (i : Inner S) (w : Tally) → (with_tally kind i w).endings ≡ i.endings
+put_endings Ethernet i w = refl
+put_endings Vlan i w = refl
+put_endings Mpls i w = refl
+put_endings Ipv4 i w = refl
+put_endings Ipv6 i w = refl
+put_endings Tcp i w = refl
+put_endings Udp i w = refl
+put_endings Gre i w = refl
+put_endings Icmp i w = refl
+put_endings Arp i w = refl
+put_endings Other i w = refl
+
+put_rest : {S : Type 0} (kind : Kind) (a i : Inner S) (w : Tally) → SameButCounts a i → SameButCounts a (with_tally kind i w)
+put_rest Ethernet a i w h = record { store = h.store; table = h.table; program = h.program }
+put_rest Vlan a i w h = record { store = h.store; table = h.table; program = h.program }
+put_rest Mpls a i w h = record { store = h.store; table = h.table; program = h.program }
+put_rest Ipv4 a i w h = record { store = h.store; table = h.table; program = h.program }
+put_rest Ipv6 a i w h = record { store = h.store; table = h.table; program = h.program }
+put_rest Tcp a i w h = record { store = h.store; table = h.table; program = h.program }
+put_rest Udp a i w h = record { store = h.store; table = h.table; program = h.program }
+put_rest Gre a i w h = record { store = h.store; table = h.table; program = h.program }
+put_rest Icmp a i w h = record { store = h.store; table = h.table; program = h.program }
+put_rest Arp a i w h = record { store = h.store; table = h.table; program = h.program }
+put_rest Other a i w h = record { store = h.store; table = h.table; program = h.program }
+
+report : (ts us : List Tally) (e f : Endings) → ts ≡ us → e ≡ f → ◌≡◌ {A = Report} (record { tallies = ts; endings = e }) (record { tallies = us; endings = f })
+report ts us e f p q = cc
+
+-- no marks count nothing
+pub none_marked : (c : Counts) → report_of (marked [] c) ≡ report_of c
+none_marked c = simp add-zero
+
+-- the kind of a number, if there is one
+number_of : (n : ℕ) (k : Kind) → kind_of n ≡ Some k → n ≡ kind_number k
+number_of n k e = go (leb n 10) refl e
+  where
+    go : (b : Bool) → leb n 10 ≡ b → cond b (Some (kind_at n)) None ≡ Some k → n ≡ kind_number k
+    go true h s = let same : kind_at n ≡ k = cc in sym (number_back n (leb-true n 10 h)) ∙ ap kind_number same
+    go false h s = cc
+
+number_of_none : (n : ℕ) → kind_of n ≡ None → 10 < n
+number_of_none n e = go (leb n 10) refl e
+  where
+    go : (b : Bool) → leb n 10 ≡ b → ◌≡◌ {A = Option Kind} (cond b (Some (kind_at n)) None) None → 10 < n
+    go true h s = cc
+    go false h s = leb-false n 10 h
+
+number_small : (k : Kind) → kind_number k ≤ 10
+number_small Ethernet = omega arith
+number_small Vlan = omega arith
+number_small Mpls = omega arith
+number_small Ipv4 = omega arith
+number_small Ipv6 = omega arith
+number_small Tcp = omega arith
+number_small Udp = omega arith
+number_small Gre = omega arith
+number_small Icmp = omega arith
+number_small Arp = omega arith
+number_small Other = omega arith
+
+number_apart : (n : ℕ) (k : Kind) → 10 < n → eqb n (kind_number k) ≡ false
+number_apart n k h = ne_eqb n (kind_number k) (λ e. absurd (omega (arith, number_small k, e)))
+
+-- of the tallies, that of a mark's kind is raised
+module _ {S : Type 0} (kind k : Kind) (i : Inner S) (n l : ℕ) (f : Kind → Tally) (e : n ≡ kind_number kind) (t : tallies i ≡ map f kinds) where
+  raised_there : cond (eqb n (kind_number k)) (raised l (f k)) (f k) ≡ cond (eqb (kind_number kind) (kind_number k)) (raised l (tally_in kind i)) (f k)
+  raised_there = ap (λ z. cond (eqb z (kind_number k)) (raised l (f k)) (f k)) e ∙ go (eqb (kind_number kind) (kind_number k)) refl
+    where
+      go : (b : Bool) → eqb (kind_number kind) (kind_number k) ≡ b → cond b (raised l (f k)) (f k) ≡ cond b (raised l (tally_in kind i)) (f k)
+      go true h =
+          let same : kind ≡ k = sym (kind_back kind) ∙ ap kind_at (eqb-true _ _ h) ∙ kind_back k in
+          ap (λ z. raised l (f z)) (sym same) ∙ ap (raised l) (sym (tally_here kind i f t))
+      go false h = refl
+
+-- a mark that is raised is counted
+pub mark_counted : {S : Type 0} (i : Inner S) (ms : List Mark) (m : Mark) (c : Counts) → report_in i ≡ report_of (marked ms c) → report_in (with_mark m i) ≡ report_of (marked (ms ++ (m ∷ [])) c)
+mark_counted i ms m c e = go (kind_of m.kind) refl
+  where
+    go : (o : Option Kind) → kind_of m.kind ≡ o → report_in (with_raised m o i) ≡ report_of (marked (ms ++ (m ∷ [])) c)
+    go None h =
+        let far = number_of_none m.kind h in
+        e ∙ sym (report _ _ _ _ (map_same (tally_of (marked (ms ++ (m ∷ [])) c)) (tally_of (marked ms c)) (λ k. tally_more ms m c k false (number_apart m.kind k far))) refl)
+    go (Some kind) h =
+        let ts = ap (λ (r : Report). r.tallies) e in
+        report _ _ _ _ (tally_put kind i _ (tally_of (marked ms c)) (tally_of (marked (ms ++ (m ∷ [])) c)) ts
+        (λ k. tally_more ms m c k (eqb m.kind (kind_number k)) refl ∙ raised_there kind k i m.kind m.length (tally_of (marked ms c)) (number_of m.kind kind h) ts))
+        (put_endings kind i _ ∙ ap (λ (r : Report). r.endings) e)
+
+pub rest_same : {S : Type 0} (a i : Inner S) (m : Mark) → SameButCounts a i → SameButCounts a (with_mark m i)
+rest_same a i m e = go (kind_of m.kind)
+  where
+    go : (o : Option Kind) → SameButCounts a (with_raised m o i)
+    go None = e
+    go (Some kind) = put_rest kind a i _ e
+
+-- an ending that is raised is counted
+endings_counted : (e : Ending) (ms : List Mark) (c : Counts) → one_more e (endings_of c) ≡ endings_of (counted ms e c)
+endings_counted Done ms c = endings _ _ _ _ _ _ _ _ _ _ (omega arith) (omega arith) (omega arith) (omega arith) (omega arith)
+endings_counted Cut ms c = endings _ _ _ _ _ _ _ _ _ _ (omega arith) (omega arith) (omega arith) (omega arith) (omega arith)
+endings_counted Short ms c = endings _ _ _ _ _ _ _ _ _ _ (omega arith) (omega arith) (omega arith) (omega arith) (omega arith)
+endings_counted Unfit ms c = endings _ _ _ _ _ _ _ _ _ _ (omega arith) (omega arith) (omega arith) (omega arith) (omega arith)
+endings_counted Dropped ms c = endings _ _ _ _ _ _ _ _ _ _ (omega arith) (omega arith) (omega arith) (omega arith) (omega arith)
+
+pub read_counted : {S : Type 0} (i : Inner S) (ms : List Mark) (e : Ending) (c : Counts) → report_in i ≡ report_of (marked ms c)
+    → report_in (record i { endings = one_more e i.endings }) ≡ report_of (counted ms e c)
+read_counted i ms e c h = report _ _ _ _ (ap (λ (r : Report). r.tallies) h) (ap (λ (r : Report). one_more e r.endings) h ∙ endings_counted e ms c)

@@ -1,0 +1,4 @@
+pub mod Counting
+pub mod Loading
+pub mod Refused
+pub mod Reading

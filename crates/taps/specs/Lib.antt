@@ -1,0 +1,5 @@
+pub mod Faults
+pub mod Counts
+pub mod Held
+pub mod Plain
+pub mod Following
