@@ -321,6 +321,114 @@ PACKETS = {
     "too-long.packet": bytes(9601),
 }
 
+# Packets whose bytes are laid out as the standards draw them, with their own numbers where they have an
+# example; the addresses are those set aside for documentation. All of them go through the campus graph.
+
+def ones_sum(content):
+    """The checksum of RFC 791 and RFC 792: the ones' complement of the ones' complement sum."""
+    content += bytes(len(content) % 2)
+    total = sum(struct.unpack(f">{len(content) // 2}H", content))
+    while total >> 16:
+        total = (total & 0xFFFF) + (total >> 16)
+    return total ^ 0xFFFF
+
+
+def mac(last):
+    return bytes([0x02, 0x00, 0x5E, 0x10, 0x00, last])
+
+
+def frame(ether_type, rest):
+    """IEEE 802.3: destination, source, type."""
+    return mac(1) + mac(2) + struct.pack(">H", ether_type) + rest
+
+
+def vlan_tag(priority, vlan, ether_type, rest):
+    """IEEE 802.1Q: three bits of priority, one for drop eligible, twelve for the VLAN; then the type."""
+    return struct.pack(">HH", priority << 13 | vlan, ether_type) + rest
+
+
+def datagram(protocol, rest, identification=111, flags=0, offset=0, time=123, options=b""):
+    """RFC 791, section 3.1. The numbers are those of its examples in appendix A."""
+    words = 5 + len(options) // 4
+    source, destination = bytes([192, 0, 2, 1]), bytes([198, 51, 100, 2])
+    start = struct.pack(">BBHHHBB", 0x40 | words, 0, 4 * words + len(rest), identification,
+                        flags << 13 | offset, time, protocol)
+    checksum = ones_sum(start + bytes(2) + source + destination + options)
+    return start + struct.pack(">H", checksum) + source + destination + options + rest
+
+
+def echo(kind, data):
+    """RFC 792: type 8 for an echo and 0 for its reply, code 0, checksum, identifier, sequence number."""
+    behind = struct.pack(">HH", 0x0102, 1) + data
+    return struct.pack(">BBH", kind, 0, ones_sum(bytes([kind, 0, 0, 0]) + behind)) + behind
+
+
+def arp(operation, sender, target):
+    """RFC 826 between Ethernet and IPv4: address spaces, address lengths, operation, both addresses twice."""
+    return struct.pack(">HHBBH", 1, ETHER_IPV4, 6, 4, operation) + sender + target
+
+
+def label_entry(number, bottom, time=64):
+    """RFC 3032, section 2.1: twenty bits of label, three of experimental use, the bottom of the stack, time."""
+    return struct.pack(">I", number << 12 | bottom << 8 | time)
+
+
+def segment(options, data=b""):
+    """RFC 9293, section 3.1: the options are part of the header, which is counted in words of 4 bytes."""
+    words = 5 + len(options) // 4
+    return struct.pack(">HHIIBBHHH", 49152, 80, 1, 0, words << 4, 0x02, 65535, 0, 0) + options + data
+
+
+def udp(source, destination, data):
+    """RFC 768: ports, length of header and data, checksum (0 says that there is none)."""
+    return struct.pack(">HHHH", source, destination, 8 + len(data), 0) + data
+
+
+def six(next_header, rest, flow=0x12345):
+    """RFC 8200, section 3: version 6, traffic class, flow label, length, next header, hop limit, addresses."""
+    source = bytes.fromhex("20010db8000000000000000000000001")
+    destination = bytes.fromhex("20010db8000000000000000000000002")
+    return struct.pack(">IHBB", 6 << 28 | flow, len(rest), next_header, 64) + source + destination + rest
+
+
+def gre(ether_type, rest, key=None):
+    """RFC 2784, section 2: no checksum, version 0, the protocol type; with a key the bit and field of RFC 2890."""
+    if key is None:
+        return struct.pack(">HH", 0, ether_type) + rest
+    return struct.pack(">HHI", 0x2000, ether_type, key) + rest
+
+
+SYN_OPTIONS = bytes([2, 4, 0x05, 0xB4, 1, 1, 4, 2])  # a segment size of 1460, padding, selective acknowledgement
+ASK_Y = (mac(2) + bytes([192, 0, 2, 1]), bytes(6) + bytes([192, 0, 2, 7]))
+HOP_BY_HOP = bytes([58, 0, 5, 2, 0, 0, 1, 0])  # next header ICMPv6; a router alert and padding
+
+STANDARDS = [
+    # RFC 791, appendix A, example 1: 21 bytes, one of them data, so that no ICMP header fits.
+    frame(ETHER_IPV4, datagram(IP_ICMP, bytes([0x2A]))),
+    # Example 2: a datagram of 472 bytes, and its two fragments, the second from the 32nd unit of 8 bytes on.
+    frame(ETHER_IPV4, datagram(IP_TCP, segment(b"", bytes(432)))),
+    frame(ETHER_IPV4, datagram(IP_TCP, segment(b"", bytes(236)), flags=1)),
+    frame(ETHER_IPV4, datagram(IP_TCP, bytes(196), offset=32)),
+    # Example 3: a header of 8 words with options, in a datagram of 576 bytes.
+    frame(ETHER_IPV4, datagram(IP_TCP, segment(b"", bytes(524)),
+                               options=bytes([0x88, 4, 0, 9, 0x44, 4, 5, 0x10, 1, 1, 1, 0]))),
+    frame(ETHER_ARP, arp(1, *ASK_Y)),
+    frame(ETHER_ARP, arp(2, mac(7) + bytes([192, 0, 2, 7]), ASK_Y[0])),
+    frame(ETHER_IPV4, datagram(IP_ICMP, echo(8, b"abcdefgh"))),
+    frame(ETHER_IPV4, datagram(IP_ICMP, echo(0, b"abcdefgh"))),
+    frame(ETHER_MPLS, label_entry(16, 0) + label_entry(17, 1) + datagram(IP_UDP, udp(5060, 5060, b"INVITE"))),
+    frame(ETHER_IPV4, datagram(IP_GRE, gre(ETHER_IPV4, datagram(IP_UDP, udp(53, 53, bytes(12)))))),
+    frame(ETHER_IPV4, datagram(IP_GRE, gre(ETHER_IPV6, six(IP_TCP, segment(SYN_OPTIONS)), key=7))),
+    frame(ETHER_IPV6, six(IP_UDP, udp(5004, 5004, bytes(16)))),
+    frame(ETHER_IPV6, six(IP_HOP_BY_HOP, HOP_BY_HOP + echo(128, b""))),
+    frame(ETHER_VLAN, vlan_tag(5, 100, ETHER_IPV4, datagram(IP_TCP, segment(SYN_OPTIONS, b"data")))),
+    frame(ETHER_PROVIDER_VLAN, vlan_tag(0, 200, ETHER_VLAN, vlan_tag(3, 100, ETHER_IPV6, six(IP_TCP, segment(b""))))),
+    # Five label stack entries, one more than the graph has nodes for.
+    frame(ETHER_MPLS, b"".join(label_entry(16 + n, 0) for n in range(4)) + label_entry(20, 1) + datagram(IP_UDP, udp(1, 2, b""))),
+    # An IEEE 802.3 length in the place of a type.
+    frame(46, bytes(46)),
+]
+
 # Captures: a header, and for each packet a record, here the lowest byte of each number first
 
 def capture(packets, link=1):
@@ -336,6 +444,7 @@ CAPTURES = {
     "three.pcap": capture(THREE),
     "cut.pcap": capture(THREE)[:-1],
     "wireless.pcap": capture(THREE, link=105),
+    "standards.pcap": capture(STANDARDS),
 }
 
 # Plans of the four-node graph: for each node a count and three nodes

@@ -11,7 +11,7 @@ use Rattle.runs.specs.declared.calls.Reply.TheVariants as reply
 -- the same calls, but for the plans of loads
 pub data AlikeCall : Call → Call → Type 0 where
   loads : {file other plan its : Bor (List ℕ)} → file.now ≡ other.now → AlikeCall (Load file plan) (Load other its)
-  reads : {packet other : Bor (List ℕ)} {room lent : ℕ} → packet.now ≡ other.now → room ≡ lent → AlikeCall (Read packet room) (Read other lent)
+  reads : {packet other : Bor (List ℕ)} {room its : ℕ} → packet.now ≡ other.now → room ≡ its → AlikeCall (Read packet room) (Read other its)
   reports : AlikeCall Report Report
 
 pub data Alike : List Call → List Call → Type 0 where

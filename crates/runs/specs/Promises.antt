@@ -68,15 +68,17 @@ FewTold (reply.Report t) = Unit {0}
 
 -- a tap t that was new over the store s, after calls and their replies
 pub record Promised {S : Type 0} (meaning : S → Meaning) (s : S) (t : Tap S) (calls : List Call) (replies : List Reply) : Type 0 where
-  -- call by call, answers and marks are the plain tap's, with the turns' number of questions: from nothing loaded and nothing counted
+  -- call by call, answers and marks are the plain tap's, from nothing loaded and nothing counted on; a read's questions are as many
+  -- as the turns', and as the marks where the plan has no chains
   pub last : World
   pub answers : Succession (world fresh (meaning s)) calls replies last
   pub loads : LoadsRight (meaning s).capacity calls replies
   pub reports : ReportsAddUp no_counts replies
-  -- the store has the rows of the graph and plan last accepted, its count grew by the questions that were told, and its capacity stays
+  -- the store has the rows of the graph and plan last accepted
   pub rows : RowsFit last.tap.loaded (meaning t.inner.store).rows
-  pub few : AllByRecursion FewTold replies
+  -- its count grew by the questions that were told: of each read at most as many as its marks, which are at most 32
   pub questions : (meaning t.inner.store).questions ≡ (after_questions (told_in replies) (meaning s)).questions
+  pub few : AllByRecursion FewTold replies
   pub capacity : (meaning t.inner.store).capacity ≡ (meaning s).capacity
   -- and so the tap goes on
   pub follows : Follows meaning t last.tap

@@ -18,6 +18,7 @@ pub fn run<S: Store>(tap: &mut Tap<S>, calls: &[Call<'_>], replies: &mut [Reply]
     ensures rest { drop result replies.new ≡ drop result replies.old }
 {
     let count = calls.len().min(replies.len());
+    // A zip with the replies was tried: its invariant has no name for what is written to them.
     for i in 0..count {
         replies[i] = make(tap, calls[i]);
     }

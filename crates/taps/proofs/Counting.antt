@@ -1,17 +1,16 @@
 -- Counts that stop follow counts that do not.
-use Rattle.std.proofs.Common.{◌≡◌, ℕ, ◌+◌, ◌<◌, ◌≤◌, leb, Bool, true, false, cond, eqb, List, [], ◌∷◌, ◌++◌, map, length, Some, None, Option, sym, refl, ap, ◌∙◌, arith, add-zero}
+use Rattle.std.proofs.Common.{◌≡◌, ℕ, ◌+◌, ◌<◌, ◌≤◌, Bool, true, false, cond, eqb, List, [], ◌∷◌, ◌++◌, map, length, Some, None, Option, sym, refl, ap, ◌∙◌, arith, add-zero}
 use Rattle.std.specs.List.{sum_by}
-use Rattle.std.proofs.lemmas.Bool.{leb-true, leb-false, eqb-true, ne_eqb}
+use Rattle.std.proofs.lemmas.Bool.Decides.{nat_tests}
+use Rattle.std.proofs.lemmas.Bool.{eqb-true, ne_eqb}
 use Rattle.std.proofs.lemmas.List.{append-nil, length-append}
 use Rattle.std.proofs.lemmas.List.Elements.{filter-append}
 use Rattle.std.proofs.lemmas.List.Sums.{sum_by-append}
 use Rattle.headers.specs.declared.kinds.Kind.{Kind}
-use Rattle.headers.specs.declared.kinds.Kind.TheVariants.{Ethernet, Vlan, Mpls, Ipv4, Ipv6, Tcp, Udp, Gre, Icmp, Arp, Other}
 use Rattle.headers.specs.declared.mark.Mark.{Mark}
 use Rattle.headers.specs.Kinds.{kind_number, kind_at, kind_of}
-use Rattle.headers.proofs.KindLaws.{kind_back, number_back}
+use Rattle.headers.proofs.KindLaws.{kind_back}
 use Rattle.walks.specs.declared.outcome.Ending.{Ending}
-use Rattle.walks.specs.declared.outcome.Ending.TheVariants.{Done, Cut, Short, Unfit, Dropped}
 use Rattle.taps.specs.declared.counts.Tally.{Tally}
 use Rattle.taps.specs.declared.counts.Endings.{Endings}
 use Rattle.taps.specs.declared.counts.Report.{Report}
@@ -48,57 +47,17 @@ tally_more ms m c k false e =
 -- the tally of a kind is another, and the others are the same
 tally_put : {S : Type 0} (kind : Kind) (i : Inner S) (w : Tally) (f h : Kind → Tally) → tallies i ≡ map f kinds → ((k : Kind) → h k ≡ cond (eqb (kind_number kind) (kind_number k)) w (f k))
     → tallies (with_tally kind i w) ≡ map h kinds
-tally_put Ethernet i w f h e is = simp is (cc)
-tally_put Vlan i w f h e is = simp is (cc)
-tally_put Mpls i w f h e is = simp is (cc)
-tally_put Ipv4 i w f h e is = simp is (cc)
-tally_put Ipv6 i w f h e is = simp is (cc)
-tally_put Tcp i w f h e is = simp is (cc)
-tally_put Udp i w f h e is = simp is (cc)
-tally_put Gre i w f h e is = simp is (cc)
-tally_put Icmp i w f h e is = simp is (cc)
-tally_put Arp i w f h e is = simp is (cc)
-tally_put Other i w f h e is = simp is (cc)
+tally_put kind i w f h e is = grind (arith, is)
 
 tally_here : {S : Type 0} (kind : Kind) (i : Inner S) (f : Kind → Tally) → tallies i ≡ map f kinds → tally_in kind i ≡ f kind
-tally_here Ethernet i f e = cc
-tally_here Vlan i f e = cc
-tally_here Mpls i f e = cc
-tally_here Ipv4 i f e = cc
-tally_here Ipv6 i f e = cc
-tally_here Tcp i f e = cc
-tally_here Udp i f e = cc
-tally_here Gre i f e = cc
-tally_here Icmp i f e = cc
-tally_here Arp i f e = cc
-tally_here Other i f e = cc
+tally_here kind i f e = grind arith
 
 -- another tally changes nothing else
 put_endings : {S : Type 0} (kind : Kind) (i : Inner S) (w : Tally) → (with_tally kind i w).endings ≡ i.endings
-put_endings Ethernet i w = refl
-put_endings Vlan i w = refl
-put_endings Mpls i w = refl
-put_endings Ipv4 i w = refl
-put_endings Ipv6 i w = refl
-put_endings Tcp i w = refl
-put_endings Udp i w = refl
-put_endings Gre i w = refl
-put_endings Icmp i w = refl
-put_endings Arp i w = refl
-put_endings Other i w = refl
+put_endings kind i w = grind arith
 
 put_rest : {S : Type 0} (kind : Kind) (a i : Inner S) (w : Tally) → SameButCounts a i → SameButCounts a (with_tally kind i w)
-put_rest Ethernet a i w h = record { store = h.store; table = h.table; program = h.program }
-put_rest Vlan a i w h = record { store = h.store; table = h.table; program = h.program }
-put_rest Mpls a i w h = record { store = h.store; table = h.table; program = h.program }
-put_rest Ipv4 a i w h = record { store = h.store; table = h.table; program = h.program }
-put_rest Ipv6 a i w h = record { store = h.store; table = h.table; program = h.program }
-put_rest Tcp a i w h = record { store = h.store; table = h.table; program = h.program }
-put_rest Udp a i w h = record { store = h.store; table = h.table; program = h.program }
-put_rest Gre a i w h = record { store = h.store; table = h.table; program = h.program }
-put_rest Icmp a i w h = record { store = h.store; table = h.table; program = h.program }
-put_rest Arp a i w h = record { store = h.store; table = h.table; program = h.program }
-put_rest Other a i w h = record { store = h.store; table = h.table; program = h.program }
+put_rest kind a i w h = record { store = grind arith; table = grind arith; program = grind arith }
 
 report : (ts us : List Tally) (e f : Endings) → ts ≡ us → e ≡ f → ◌≡◌ {A = Report} (record { tallies = ts; endings = e }) (record { tallies = us; endings = f })
 report ts us e f p q = cc
@@ -109,31 +68,13 @@ none_marked c = simp add-zero
 
 -- the kind of a number, if there is one
 number_of : (n : ℕ) (k : Kind) → kind_of n ≡ Some k → n ≡ kind_number k
-number_of n k e = go (leb n 10) refl e
-  where
-    go : (b : Bool) → leb n 10 ≡ b → cond b (Some (kind_at n)) None ≡ Some k → n ≡ kind_number k
-    go true h s = let same : kind_at n ≡ k = cc in sym (number_back n (leb-true n 10 h)) ∙ ap kind_number same
-    go false h s = cc
+number_of n k e = grind (arith, nat_tests)
 
 number_of_none : (n : ℕ) → kind_of n ≡ None → 10 < n
-number_of_none n e = go (leb n 10) refl e
-  where
-    go : (b : Bool) → leb n 10 ≡ b → ◌≡◌ {A = Option Kind} (cond b (Some (kind_at n)) None) None → 10 < n
-    go true h s = cc
-    go false h s = leb-false n 10 h
+number_of_none n e = grind (arith, nat_tests)
 
 number_small : (k : Kind) → kind_number k ≤ 10
-number_small Ethernet = omega arith
-number_small Vlan = omega arith
-number_small Mpls = omega arith
-number_small Ipv4 = omega arith
-number_small Ipv6 = omega arith
-number_small Tcp = omega arith
-number_small Udp = omega arith
-number_small Gre = omega arith
-number_small Icmp = omega arith
-number_small Arp = omega arith
-number_small Other = omega arith
+number_small k = grind arith
 
 number_apart : (n : ℕ) (k : Kind) → 10 < n → eqb n (kind_number k) ≡ false
 number_apart n k h = ne_eqb n (kind_number k) (λ e. absurd (omega (arith, number_small k, e)))
@@ -172,11 +113,7 @@ rest_same a i m e = go (kind_of m.kind)
 
 -- an ending that is raised is counted
 endings_counted : (e : Ending) (ms : List Mark) (c : Counts) → one_more e (endings_of c) ≡ endings_of (counted ms e c)
-endings_counted Done ms c = endings _ _ _ _ _ _ _ _ _ _ (omega arith) (omega arith) (omega arith) (omega arith) (omega arith)
-endings_counted Cut ms c = endings _ _ _ _ _ _ _ _ _ _ (omega arith) (omega arith) (omega arith) (omega arith) (omega arith)
-endings_counted Short ms c = endings _ _ _ _ _ _ _ _ _ _ (omega arith) (omega arith) (omega arith) (omega arith) (omega arith)
-endings_counted Unfit ms c = endings _ _ _ _ _ _ _ _ _ _ (omega arith) (omega arith) (omega arith) (omega arith) (omega arith)
-endings_counted Dropped ms c = endings _ _ _ _ _ _ _ _ _ _ (omega arith) (omega arith) (omega arith) (omega arith) (omega arith)
+endings_counted e ms c = grind arith
 
 pub read_counted : {S : Type 0} (i : Inner S) (ms : List Mark) (e : Ending) (c : Counts) → report_in i ≡ report_of (marked ms c)
     → report_in (record i { endings = one_more e i.endings }) ≡ report_of (counted ms e c)

@@ -70,14 +70,8 @@ report_of c = record { tallies = map (tally_of c) kinds; endings = endings_of c 
 
 -- How they are raised
 
-abbrev pub no_tally : Tally
-no_tally = record { headers = 0; bytes = 0 }
-
 abbrev pub raised : ℕ → Tally → Tally
 raised n t = record { headers = capped (t.headers + 1); bytes = capped (t.bytes + n) }
-
-abbrev pub no_endings : Endings
-no_endings = record { done = 0; cut = 0; short = 0; unfit = 0; dropped = 0 }
 
 abbrev pub one_more : Ending → Endings → Endings
 one_more Done e = record e { done = capped (e.done + 1) }

@@ -1,18 +1,18 @@
 // What a tap counts. Each count stops at 4,294,967,295.
 ghost use Rattle.std.specs.Prelude.{◌≡◌};
-ghost use Rattle.taps.specs.Counts.{no_tally, no_endings, raised, one_more};
+ghost use Rattle.taps.specs.Counts.{raised, one_more};
 
 use walks::outcome::Ending;
 
 /// The headers of a kind, and their bytes.
-#[derive(Clone, Copy, PartialEq, Eq, Debug)]
+#[derive(Clone, Copy, PartialEq, Eq, Debug, Default)]
 pub struct Tally {
     pub headers: u32,
     pub bytes: u32,
 }
 
 /// How many reads ended in each way.
-#[derive(Clone, Copy, PartialEq, Eq, Debug)]
+#[derive(Clone, Copy, PartialEq, Eq, Debug, Default)]
 pub struct Endings {
     pub done: u32,
     pub cut: u32,
@@ -29,16 +29,6 @@ pub struct Report {
 }
 
 impl Tally {
-    // No headers.
-    pub(crate) fn none() -> Tally
-        ensures { result ≡ no_tally }
-    {
-        Tally {
-            headers: 0,
-            bytes: 0,
-        }
-    }
-
     // One header more, of so many bytes.
     pub(crate) fn raise(&mut self, length: u16)
         ensures { self.new ≡ raised length self.old }
@@ -49,19 +39,6 @@ impl Tally {
 }
 
 impl Endings {
-    // No reads.
-    pub(crate) fn none() -> Endings
-        ensures { result ≡ no_endings }
-    {
-        Endings {
-            done: 0,
-            cut: 0,
-            short: 0,
-            unfit: 0,
-            dropped: 0,
-        }
-    }
-
     // One read more that ended so.
     pub(crate) fn raise(&mut self, ending: Ending)
         ensures { self.new ≡ one_more ending self.old }
@@ -74,4 +51,29 @@ impl Endings {
             Ending::Dropped => self.dropped = self.dropped.saturating_add(1),
         }
     }
+}
+
+#[test]
+fn counts_stop_at_the_most(rt: HostRuntime) {
+    let mut tally = Tally {
+        headers: 4_294_967_294,
+        bytes: 4_294_967_275,
+    };
+    let most = Tally {
+        headers: 4_294_967_295,
+        bytes: 4_294_967_295,
+    };
+    tally.raise(20);
+    assert_eq!(rt; tally, most);
+    tally.raise(1);
+    assert_eq!(rt; tally, most);
+    let mut endings = Endings {
+        done: 4_294_967_295,
+        ..Endings::default()
+    };
+    let before = endings;
+    endings.raise(Ending::Done);
+    assert_eq!(rt; endings, before);
+    endings.raise(Ending::Cut);
+    assert_eq!(rt; endings.cut, 1);
 }

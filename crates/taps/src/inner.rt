@@ -42,7 +42,7 @@ impl<S> Inner<S> {
         ensures program { result.program ≡ None }
         ensures counts { report_in result ≡ report_of no_counts }
     {
-        let none = Tally::none();
+        let none = Tally::default();
         Inner {
             store,
             table: KindTable::standard(),
@@ -58,7 +58,7 @@ impl<S> Inner<S> {
             icmp: none,
             arp: none,
             other: none,
-            endings: Endings::none(),
+            endings: Endings::default(),
         }
     }
 
