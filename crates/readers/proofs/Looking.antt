@@ -1,8 +1,8 @@
 -- The lookup bytes of headers, put one behind the other.
-use Rattle.std.proofs.Common.{◌≡◌, ℕ, ◌+◌, ◌<◌, List, [], ◌∷◌, ◌++◌, map, length, get_or, take, replicate, refl, sym, ap, ◌∙◌, arith}
+use Rattle.std.proofs.Common.{◌≡◌, ℕ, List, [], ◌∷◌, ◌++◌, replicate, refl, sym, ap, ◌∙◌, arith}
 use Rattle.std.specs.List.{flat_map}
 use Rattle.std.specs.Int.{w64, from_be_bytes}
-use Rattle.std.proofs.lemmas.List.{take_more, map-append, append_assoc, append-nil}
+use Rattle.std.proofs.lemmas.List.{append-nil}
 use Rattle.headers.specs.declared.mark.Mark.{Mark}
 use Rattle.walks.specs.Bytes.{filled, spelled, spelled_in}
 use Rattle.compiler.specs.declared.program.Program.{Program}
@@ -11,14 +11,6 @@ use Rattle.readers.specs.Fronts.{Written}
 use Rattle.readers.specs.Headers.{mark_by, lookups_by, end_of, marks_by, keys_by}
 use Rattle.readers.proofs.Fronting.{over_filled}
 
--- one place more
-pub places_more : (f : ℕ → ℕ) (ws xs : List ℕ) (i b : ℕ) → i < length xs → b ≡ f (get_or xs i 0)
-    → (ws ++ map f (take i xs)) ++ b ∷ [] ≡ ws ++ map f (take (i + 1) xs)
-places_more f ws xs i b h e =
-    append_assoc ws (map f (take i xs)) (b ∷ [])
-    ∙ ap (λ y. ws ++ (map f (take i xs) ++ y ∷ [])) e
-    ∙ ap (λ ys. ws ++ ys) (sym (map-append f (take i xs) (get_or xs i 0 ∷ [])) ∙ ap (map f) (sym (take_more xs i 0 h)))
-
 -- A key that is being filled: the lookup bytes so far, and those of the headers that are left, are those of all
 pub record Filling (f : Mark → List ℕ) (bytes : List ℕ) (count : ℕ) (left : List Mark) (whole : List ℕ) : Type 0 where
   pub ks : List ℕ
@@ -26,15 +18,6 @@ pub record Filling (f : Mark → List ℕ) (bytes : List ℕ) (count : ℕ) (lef
   pub rest : ks ++ flat_map f left ≡ whole
 
 module _ (f : Mark → List ℕ) (bytes : List ℕ) (count : ℕ) (left : List Mark) (whole : List ℕ) where
-  -- one header more
-  pub filling_more : Filling f bytes count left whole → (m : Mark) (others : List Mark) → left ≡ m ∷ others → (new : List ℕ) (n : ℕ)
-      → ((before ws : List ℕ) → Written before bytes count ws → Written before new n (ws ++ f m)) → Filling f new n others whole
-  filling_more w m others e new n put = record {
-    ks = w.ks ++ f m;
-    written = put (replicate 8 0) w.ks w.written;
-    rest = append_assoc w.ks (f m) (flat_map f others) ∙ ap (λ ms. w.ks ++ flat_map f ms) (sym e) ∙ w.rest;
-  }
-
   -- none is left
   pub filling_done : Filling f bytes count left whole → left ≡ [] → bytes ≡ filled 0 8 whole
   filling_done w e =
