@@ -1,5 +1,5 @@
 #!/usr/bin/env python3
-"""Writes the sample graph files of crates/tapctl/data/, and these with packets, captures and plans to crates/tapctl_next/data/.
+"""Writes the sample graph files, packets, captures and plans of crates/tapctl/data/.
 
 Run it from anywhere, with no arguments: `python3 tools/make_samples.py`. It needs nothing but
 Python 3, and it overwrites the samples.
@@ -146,6 +146,14 @@ FOUR_NODES = {
     ]),
     "TCP": node("TCP", TCP_LENGTH, [], [
         otherwise(DONE),
+    ]),
+}
+
+# The same without the row that decides for any other type: a walk of such a packet ends by 15
+NO_ROW_FOR_OTHER_TYPES = FOUR_NODES | {
+    "Ethernet": node("Ethernet", fixed(14), [12, 13], [
+        row(ETHER_VLAN, "VLAN"),
+        row(ETHER_IPV4, "IPv4"),
     ]),
 }
 
@@ -429,12 +437,17 @@ STANDARDS = [
     frame(46, bytes(46)),
 ]
 
-# Captures: a header, and for each packet a record, here the lowest byte of each number first
+# Captures: a header, and for each packet a record. The order of a number's bytes is "<", lowest first, or ">"; the
+# header's first number tells the order, and whether records count millionths or billionths of a second
 
-def capture(packets, link=1):
-    content = struct.pack("<IHHIIII", 0xA1B2C3D4, 2, 4, 0, 0, 65535, link)
+MILLIONTHS = 0xA1B2C3D4
+BILLIONTHS = 0xA1B23C4D
+
+
+def capture(packets, link=1, order="<", spelling=MILLIONTHS):
+    content = struct.pack(order + "IHHIIII", spelling, 2, 4, 0, 0, 65535, link)
     for second, packet in enumerate(packets):
-        content += struct.pack("<IIII", second, 0, len(packet), len(packet)) + packet
+        content += struct.pack(order + "IIII", second, 0, len(packet), len(packet)) + packet
     return content
 
 
@@ -443,6 +456,12 @@ THREE = [PACKETS[name] for name in ("tagged-tcp.packet", "cut-inside-tag.packet"
 CAPTURES = {
     "three.pcap": capture(THREE),
     "cut.pcap": capture(THREE)[:-1],
+    "cut-in-record-header.pcap": capture(THREE)[: 24 + 16 + 58 + 9],
+    "cut-in-header.pcap": capture(THREE)[:23],
+    "highest-byte-first.pcap": capture(THREE, order=">"),
+    "billionths.pcap": capture(THREE, spelling=BILLIONTHS),
+    "billionths-highest-byte-first.pcap": capture(THREE, order=">", spelling=BILLIONTHS),
+    "too-long-between.pcap": capture([THREE[0], bytes(9601), THREE[1]]),
     "wireless.pcap": capture(THREE, link=105),
     "standards.pcap": capture(STANDARDS),
 }
@@ -456,6 +475,7 @@ PLANS = {
 }
 
 SAMPLES = {
+    "no-row-for-other-types.graph": file_bytes(NO_ROW_FOR_OTHER_TYPES),
     "ethernet-vlan-ipv4-tcp.graph": file_bytes(FOUR_NODES),
     "campus.graph": file_bytes(CAMPUS),
     "refused-1-empty.graph": b"",
@@ -476,8 +496,7 @@ def write(crate, files):
 
 
 def main():
-    write("tapctl", SAMPLES)
-    write("tapctl_next", SAMPLES | PACKETS | PLANS | CAPTURES)
+    write("tapctl", SAMPLES | PACKETS | PLANS | CAPTURES)
 
 
 if __name__ == "__main__":

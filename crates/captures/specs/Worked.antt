@@ -37,8 +37,8 @@ abbrev pub second_entry : Entry
 second_entry = record { seconds = 1600000000; fraction = 500001; original = 3; begin = 70; length = 3; next = 73 }
 
 -- a file is read from byte 24 on, as microseconds with the lowest byte first, as so many records and an end
-abbrev pub ReadAs : List ℕ → List Entry → Option CaptureFault → Type 0
-ReadAs f es end = Capture (format_of Little Micro) f 24 es end
+abbrev pub CaptureHolds : List ℕ → List Entry → Option CaptureFault → Type 0
+CaptureHolds f es end = Capture (format_of Little Micro) f 24 es end
 
 pub record WorkedExamples : Type 0 where
   -- headers
@@ -49,9 +49,9 @@ pub record WorkedExamples : Type 0 where
   pub no_magic : opened (slice_set capture 0 0xD5) ≡ Err NotCapture
   pub other_link : opened (slice_set capture 20 105) ≡ Err (NotEthernet 105)
   -- records
-  pub none : ReadAs (take 24 capture) [] None
-  pub both : ReadAs capture (first_entry ∷ second_entry ∷ []) None
-  pub cut_in_packet : ReadAs (take 72 capture) (first_entry ∷ []) (Some (PacketCut 54 3 2))
-  pub cut_in_header : ReadAs (take 69 capture) (first_entry ∷ []) (Some (HeaderCut 54))
+  pub none : CaptureHolds (take 24 capture) [] None
+  pub both : CaptureHolds capture (first_entry ∷ second_entry ∷ []) None
+  pub cut_in_packet : CaptureHolds (take 72 capture) (first_entry ∷ []) (Some (PacketCut 54 3 2))
+  pub cut_in_header : CaptureHolds (take 69 capture) (first_entry ∷ []) (Some (HeaderCut 54))
   -- behind the end
   pub behind : record_at (format_of Little Micro) capture 74 ≡ Err (HeaderCut 74)

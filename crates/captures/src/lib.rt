@@ -2,7 +2,7 @@
 
 #![tactic(auto)]
 
-pub mod bytes;
+mod bytes;
 pub mod fault;
 pub mod format;
 pub mod records;

@@ -6,7 +6,7 @@ use std::fmt;
 impl fmt::Display for CaptureFault {
     fn fmt<W: fmt::Write>(&self, f: &mut fmt::Formatter<W>) -> fmt::Result {
         match self {
-            CaptureFault::NotCapture => write!(f, "the header of the capture is cut"),
+            CaptureFault::NotCapture => write!(f, "the file has no whole header of a capture"),
             CaptureFault::NotEthernet { link } => {
                 write!(f, "the capture's link type is {link}, and not 1, Ethernet")
             }

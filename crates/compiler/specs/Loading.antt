@@ -1,6 +1,6 @@
 -- What a load is refused for, in words and as the first fault, and what it leaves.
 use Rattle.std.specs.Option.{option_or, option_map}
-use Rattle.std.specs.Prelude.{◌≡◌, ℕ, ◌-◌, ◌*◌, ◌<◌, ◌≤◌, min, Bool, ◌&&◌, ◌⊎◌, List, map, length, Ok, Err, Option, Result, nat_le}
+use Rattle.std.specs.Prelude.{◌≡◌, ℕ, ◌-◌, ◌*◌, ◌<◌, ◌≤◌, min, Bool, ◌&&◌, ◌⊎◌, List, map, length, Ok, Option, nat_le}
 use Rattle.refusals.specs.Searching.{unless}
 use Rattle.headers.specs.declared.kinds.Kind.{Kind}
 use Rattle.graphs.specs.View.{NodeView, graph_view}
@@ -62,11 +62,6 @@ pub record Loaded (minimum : Kind → ℕ) (file plan : List ℕ) (before after 
   pub lawful : Lawful graph (chain_in plan)
   pub rows : after ≡ storing before (store_rows graph (chain_in plan))
   pub stands : Stands program graph (chain_in plan)
-
--- and of a refused one: store and program are as they were
-abbrev pub Kept : {X E : Type 0} → Result X E → Meaning → Meaning → Program → Program → Type 0
-Kept (Ok x) before after p q = Unit {0}
-Kept (Err e) before after p q = (after ≡ before) × (q ≡ p)
 
 -- what is known once nothing is refused
 pub record Loadable (minimum : Kind → ℕ) (file plan : List ℕ) (capacity : ℕ) (c : Checked) : Type 0 where

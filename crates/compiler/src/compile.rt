@@ -1,5 +1,5 @@
 // Loading a graph file and a plan into any store.
-ghost use Rattle.std.specs.Prelude.{◌≡◌, ℕ, ◌≤◌, [], length, Ok};
+ghost use Rattle.std.specs.Prelude.{◌≡◌, ℕ, ◌≤◌, [], length, Ok, OnErr};
 ghost use Rattle.refusals.specs.Searching.{fault_of, unless};
 ghost use Rattle.refusals.specs.Least.{Answers};
 ghost use Rattle.headers.specs.Table.{minimum_in, standard_table};
@@ -9,7 +9,7 @@ ghost use Rattle.walks.specs.Plans.{store_count};
 ghost use Rattle.plans.specs.Chains.{chain_of};
 ghost use Rattle.compiler.specs.Faults.{of_load};
 ghost use Rattle.compiler.specs.Programs.{most_rows, Stands};
-ghost use Rattle.compiler.specs.Loading.{roomy, LoadApplies, load_fault, storing, Loaded, Kept, Loadable};
+ghost use Rattle.compiler.specs.Loading.{roomy, LoadApplies, load_fault, storing, Loaded, Loadable};
 
 use crate::checked::Checked;
 use crate::fault::LoadFault;
@@ -35,7 +35,7 @@ pub fn compile<S: Store>(
 ) -> Result<(), LoadFault>
     ensures is { fault_of result ≡ load_fault (minimum_in standard_table) file.now plan.now (S.Store.meaning store.old).capacity }
     ensures answers { Answers of_load (LoadApplies (minimum_in standard_table) file.now plan.now (S.Store.meaning store.old).capacity) (λ _. Loaded (minimum_in standard_table) file.now plan.now (S.Store.meaning store.old) (S.Store.meaning store.new) program.new) result }
-    ensures kept { Kept result (S.Store.meaning store.old) (S.Store.meaning store.new) program.old program.new }
+    ensures kept { OnErr result ((store.new ≡ store.old) × (program.new ≡ program.old)) }
 {
     compile_by(&KindTable::standard(), file, plan, store, program)
 }
@@ -50,7 +50,7 @@ pub fn compile_by<S: Store>(
 ) -> Result<(), LoadFault>
     ensures is { fault_of result ≡ load_fault (minimum_in table.now) file.now plan.now (S.Store.meaning store.old).capacity }
     ensures answers { Answers of_load (LoadApplies (minimum_in table.now) file.now plan.now (S.Store.meaning store.old).capacity) (λ _. Loaded (minimum_in table.now) file.now plan.now (S.Store.meaning store.old) (S.Store.meaning store.new) program.new) result }
-    ensures kept { Kept result (S.Store.meaning store.old) (S.Store.meaning store.new) program.old program.new }
+    ensures kept { OnErr result ((store.new ≡ store.old) × (program.new ≡ program.old)) }
 {
     let checked = check(table, file, plan, store.capacity())?;
     load(&checked, store, program)?;

@@ -1,25 +1,23 @@
 // The basic commands: how they are written, and what each does.
-use crate::demo::demo;
 use crate::failure::Failure;
 use crate::files::{bytes_of, copy_of, graph_of, put};
 use crate::graph_text::{print_accepted, print_graph};
 use crate::store_table::print_stores;
 use std::rt::Files;
 
-/// What every program over graph files can be told to do.
+/// What the program can be told to do with graph files and stores.
 #[derive(Clone, Copy)]
 pub enum Basic<'a> {
     Check { file: &'a str },
     Show { file: &'a str },
     Copy { file: &'a str, out: &'a str },
     Stores,
-    Demo,
 }
 
 impl<'a> Basic<'a> {
     /// The basic command that the words say. None if the first word is no such command's, or if the
     /// command takes more words or fewer.
-    // An Option and no error: words that are no basic command may be another of the program's.
+    // An Option and no error: words that are no basic command may be another.
     pub fn parse(words: &[&'a str]) -> Option<Basic<'a>> {
         match words {
             ["check", file] => Some(Basic::Check { file: *file }),
@@ -29,7 +27,6 @@ impl<'a> Basic<'a> {
                 out: *out,
             }),
             ["stores"] => Some(Basic::Stores),
-            ["demo"] => Some(Basic::Demo),
             _ => None,
         }
     }
@@ -41,7 +38,6 @@ impl<'a> Basic<'a> {
             Basic::Show { file } => Ok(print_graph(rt, &graph_of(rt, file)?)?),
             Basic::Copy { file, out } => copy(rt, file, out),
             Basic::Stores => print_stores(rt),
-            Basic::Demo => demo(rt),
         }
     }
 }

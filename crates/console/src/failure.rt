@@ -53,8 +53,8 @@ impl<'a> From<Refusal> for Failure<'a> {
     }
 }
 
-// The faults that only one program meets become refusals at the call: `console` does not rest on
-// their crates.
+// The faults of plans, compiling, walks and taps become refusals at the call: `console` does not rest
+// on their crates.
 // One impl for each fault: one for all that become refusals would meet those of std's errors below.
 impl<'a> From<ReadFault> for Failure<'a> {
     fn from(fault: ReadFault) -> Failure<'a> {

@@ -54,8 +54,9 @@ impl<'a> Turn<'a> {
     pub(crate) fn question(&self) -> Result<Asked, Outcome>
         ensures { TurnAsks self.now result }
     {
-        let head = head_of(self.program, self.node);
-        if self.in_one_look(&head) {
+        let none = Head::none();
+        let head = head_of(self.program, &none, self.node);
+        if self.in_one_look(head) {
             let state = CHAIN_BASE.wrapping_add(self.node);
             return Ok(self.asked(state, head.chain));
         }
@@ -120,7 +121,8 @@ impl<'a> Turn<'a> {
     fn look_up(&self, mark: Mark, bytes: &mut [u8], mut count: usize) -> usize
         ensures { (before ws : List ℕ) → Written before bytes.old count ws → Written before bytes.new result (ws ++ lookups_by self.now.program.now self.now.packet.now mark) }
     {
-        let head = head_of(self.program, mark.node);
+        let none = Head::none();
+        let head = head_of(self.program, &none, mark.node);
         let header = HeaderAt {
             packet: self.packet,
             at: u32::from(mark.offset),

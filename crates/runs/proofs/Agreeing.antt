@@ -4,15 +4,15 @@ use Rattle.refusals.specs.declared.refusal.Refusal.{Refusal}
 use Rattle.refusals.specs.Least.{rank, NotAfter, Least}
 use Rattle.headers.specs.declared.mark.Mark.{Mark}
 use Rattle.graphs.specs.View.{NodeView}
-use Rattle.graph_reader.specs.declared.fault.ReadFault as its
+use Rattle.graph_reader.specs.declared.fault.ReadFault.{ReadFault}
 use Rattle.graph_reader.specs.Reading.{reading as read_graph}
 use Rattle.walks.specs.declared.outcome.Outcome.{Outcome}
 use Rattle.walks.specs.Walk.{PlainWalk}
 use Rattle.compiler.specs.declared.fault.LoadFault.{LoadFault}
 use Rattle.readers.specs.declared.read.Reading.{Reading}
-use Rattle.taps.specs.declared.fault.ReadFault.{ReadFault}
-use Rattle.taps.specs.declared.fault.ReadFault.TheVariants.{LongPacket, FewMarks, NothingLoaded}
-use Rattle.taps.specs.Faults.{of_read, ReadApplies}
+use Rattle.taps.specs.declared.fault.PacketFault.{PacketFault}
+use Rattle.taps.specs.declared.fault.PacketFault.TheVariants.{LongPacket, FewMarks, NothingLoaded}
+use Rattle.taps.specs.Faults.{of_packet, PacketApplies}
 use Rattle.taps.specs.Counts.{counted, report_of}
 use Rattle.taps.specs.Plain.{minimum, GraphAndPlan, PlainTap, fresh, Tells, PlainLoad, PlainRead}
 use Rattle.taps.specs.Plain.PlainLoad.{refused as load_refused, accepted as load_accepted}
@@ -47,7 +47,7 @@ same_turned None (Some k) h = absurd h
 same_turned (Some l) None h = absurd h
 same_turned (Some l) (Some k) h = sym h
 
-graph_same : (g h : List NodeView) → ◌≡◌ {A = Result (List NodeView) its.ReadFault} (Ok g) (Ok h) → g ≡ h
+graph_same : (g h : List NodeView) → ◌≡◌ {A = Result (List NodeView) ReadFault} (Ok g) (Ok h) → g ≡ h
 graph_same g h e = cc
 
 -- both refuse a read alike
@@ -61,7 +61,7 @@ some_alike None b l k h e f = cc
 some_alike (Some x) None l k h e f = cc
 some_alike (Some x) (Some y) l k h e f = let i : x ≡ l = cc in let j : y ≡ k = cc in ap (λ (z : GraphAndPlan). z.graph) (sym i) ∙ h ∙ ap (λ (z : GraphAndPlan). z.graph) j
 
-applies_alike : (size room : ℕ) (a b : Option GraphAndPlan) → SameGraph a b → (e : ReadFault) → ReadApplies size room a e → ReadApplies size room b e
+applies_alike : (size room : ℕ) (a b : Option GraphAndPlan) → SameGraph a b → (e : PacketFault) → PacketApplies size room a e → PacketApplies size room b e
 applies_alike size room a b h LongPacket x = x
 applies_alike size room a b h FewMarks x = x
 applies_alike size room a b h NothingLoaded x = none_alike a b h x
@@ -69,30 +69,30 @@ applies_alike size room a b h NothingLoaded x = none_alike a b h x
 rank_same : (a b : Refusal) → NotAfter a b → NotAfter b a → rank a ≡ rank b
 rank_same a b x y = elim x [ inl h ↦ elim y [ inl k ↦ absurd (omega arith) | inr k ↦ sym k.0 ] | inr h ↦ h.0 ]
 
-abbrev fault_at : ℕ → ReadFault
+abbrev fault_at : ℕ → PacketFault
 fault_at n = cond (eqb n 10) LongPacket (cond (eqb n 11) FewMarks NothingLoaded)
 
-fault_back : (e : ReadFault) → fault_at (rank (of_read e)) ≡ e
+fault_back : (e : PacketFault) → fault_at (rank (of_packet e)) ≡ e
 fault_back LongPacket = refl
 fault_back FewMarks = refl
 fault_back NothingLoaded = refl
 
 module _ (size room : ℕ) (a b : Option GraphAndPlan) (h : SameGraph a b) where
-  least_alike : (e d : ReadFault) → Least of_read (ReadApplies size room a) e → Least of_read (ReadApplies size room b) d → e ≡ d
+  least_alike : (e d : PacketFault) → Least of_packet (PacketApplies size room a) e → Least of_packet (PacketApplies size room b) d → e ≡ d
   least_alike e d x y =
-      let same = rank_same (of_read e) (of_read d) (x.first d (applies_alike size room b a (same_turned a b h) d y.applies)) (y.first e (applies_alike size room a b h e x.applies)) in
+      let same = rank_same (of_packet e) (of_packet d) (x.first d (applies_alike size room b a (same_turned a b h) d y.applies)) (y.first e (applies_alike size room a b h e x.applies)) in
       sym (fault_back e) ∙ ap fault_at same ∙ fault_back d
 
 -- Reads
 
-reading : (o u : Outcome) (m n : ℕ) → o ≡ u → m ≡ n → ◌≡◌ {A = Result Reading ReadFault} (Ok (record { outcome = o; marks = m; questions = 0 })) (Ok (record { outcome = u; marks = n; questions = 0 }))
+reading : (o u : Outcome) (m n : ℕ) → o ≡ u → m ≡ n → ◌≡◌ {A = Result Reading PacketFault} (Ok (record { outcome = o; marks = m; questions = 0 })) (Ok (record { outcome = u; marks = n; questions = 0 }))
 reading o u m n e f = cc
 
 told_alike : (l k : GraphAndPlan) (packet : List ℕ) (ms ns : List Mark) (r s : Reading) → l.graph ≡ k.graph → Tells l packet ms r → Tells k packet ns s
     → (ms ≡ ns) × (r.outcome ≡ s.outcome)
 told_alike l k packet ms ns r s e t u = u.only ms r.outcome (subst (λ g. PlainWalk minimum g packet ms r.outcome) e t.walks)
 
-reads_agree : {p q p' q' : PlainTap} {packet : List ℕ} {before ms ns : List Mark} {r s : Result Reading ReadFault} → SameTap p q → PlainRead p packet before r ms p' → PlainRead q packet before s ns q'
+reads_agree : {p q p' q' : PlainTap} {packet : List ℕ} {before ms ns : List Mark} {r s : Result Reading PacketFault} → SameTap p q → PlainRead p packet before r ms p' → PlainRead q packet before s ns q'
     → (unasked r ≡ unasked s) × (ms ≡ ns) × SameTap p' q'
 reads_agree {p} {q} {packet = packet} {before = before} st (read_refused {e} x) (read_refused {e = d} y) =
     (ap (λ z. Err z) (least_alike (length packet) (length before) p.loaded q.loaded st.graph e d x y), refl, st)

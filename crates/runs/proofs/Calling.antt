@@ -10,11 +10,11 @@ use Rattle.compiler.specs.declared.fault.LoadFault.{LoadFault}
 use Rattle.compiler.specs.declared.program.Program.{Program}
 use Rattle.readers.specs.declared.read.Reading.{Reading}
 use Rattle.readers.specs.Reading.{after_questions}
-use Rattle.taps.specs.declared.fault.ReadFault.{ReadFault}
+use Rattle.taps.specs.declared.fault.PacketFault.{PacketFault}
 use Rattle.taps.specs.declared.tap.Tap.{Tap}
 use Rattle.taps.specs.Counts.{report_of}
 use Rattle.taps.specs.Plain.{GraphAndPlan, PlainTap}
-use Rattle.taps.specs.Following.{LoadedAs, Follows, LoadAs, ReadAs, after_load, questions_in}
+use Rattle.taps.specs.Following.{LoadedAs, Follows, LoadFollows, ReadFollows, after_load, questions_in}
 use Rattle.runs.specs.declared.calls.Call.{Call}
 use Rattle.runs.specs.declared.calls.Call.TheVariants.{Load, Read, Report}
 use Rattle.runs.specs.declared.calls.Reply.{Reply}
@@ -24,15 +24,15 @@ use Rattle.runs.specs.Successions.Answered.{load, read, report}
 use Rattle.runs.specs.Successions.Succession.{none, next}
 
 module _ {S : Type 0} (meaning : S → Meaning) (p : PlainTap) (t u : Tap S) where
-  pub load_answered : (file plan : Bor (List ℕ)) (r : Result (Unit {0}) LoadFault) → LoadAs p file.now plan.now (meaning t.inner.store).capacity r (Follows meaning u)
+  pub load_answered : (file plan : Bor (List ℕ)) (r : Result (Unit {0}) LoadFault) → LoadFollows p file.now plan.now (meaning t.inner.store).capacity r (Follows meaning u)
       → meaning u.inner.store ≡ after_load r file.now plan.now (meaning t.inner.store) → AnsweredAs meaning p t u (Load file plan) (reply.Load r)
   load_answered file plan r h e = record { after = world h.next (after_load r file.now plan.now (meaning t.inner.store)); answered = load h.plain; there = record { follows = h.follows; store = e } }
 
-  pub read_answered : (packet : Bor (List ℕ)) (room : ℕ) (r : Result Reading ReadFault) (before front marks : List Mark) → before ≡ take (lent room) no_marks → marks ≡ front ++ drop (lent room) no_marks
-      → ReadAs p packet.now before front r (Follows meaning u) → meaning u.inner.store ≡ after_questions (questions_in r) (meaning t.inner.store)
+  pub read_answered : (packet : Bor (List ℕ)) (room : ℕ) (r : Result Reading PacketFault) (before front marks : List Mark) → before ≡ take (lent room) no_marks → marks ≡ front ++ drop (lent room) no_marks
+      → ReadFollows p packet.now before front r (Follows meaning u) → meaning u.inner.store ≡ after_questions (questions_in r) (meaning t.inner.store)
       → AnsweredAs meaning p t u (Read packet room) (reply.Read r marks)
   read_answered packet room r before front marks is at h e =
-      let as_lent = subst (λ ms. ReadAs p packet.now ms front r (Follows meaning u)) is h in
+      let as_lent = subst (λ ms. ReadFollows p packet.now ms front r (Follows meaning u)) is h in
       record {
         after = world as_lent.next (after_questions (questions_in r) (meaning t.inner.store));
         answered = subst (λ ms. Answered (world p (meaning t.inner.store)) (Read packet room) (reply.Read r ms) (world as_lent.next (after_questions (questions_in r) (meaning t.inner.store)))) (sym at) (read as_lent.plain);

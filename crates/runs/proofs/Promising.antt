@@ -10,7 +10,7 @@ use Rattle.compiler.specs.Faults.{of_load}
 use Rattle.compiler.specs.Loading.{LoadApplies}
 use Rattle.readers.specs.declared.read.Reading.{Reading}
 use Rattle.readers.specs.Reading.{after_questions}
-use Rattle.taps.specs.declared.fault.ReadFault.{ReadFault}
+use Rattle.taps.specs.declared.fault.PacketFault.{PacketFault}
 use Rattle.taps.specs.declared.tap.Tap.{Tap}
 use Rattle.taps.specs.Counts.{counted}
 use Rattle.taps.specs.Plain.{minimum, PlainTap, PlainLoad, PlainRead, fresh}
@@ -65,7 +65,7 @@ counts_load : {p q : PlainTap} {file plan : List ℕ} {n : ℕ} {r : Result (Uni
 counts_load (load_refused least) = refl
 counts_load (load_accepted clear is same) = refl
 
-counts_read : {p q : PlainTap} {packet : List ℕ} {before marks : List Mark} {r : Result Reading ReadFault} (rest : List Mark) → PlainRead p packet before r marks q
+counts_read : {p q : PlainTap} {packet : List ℕ} {before marks : List Mark} {r : Result Reading PacketFault} (rest : List Mark) → PlainRead p packet before r marks q
     → q.counts ≡ with_reply (reply.Read r (marks ++ rest)) p.counts
 counts_read rest (read_refused least) = refl
 counts_read {p = p} {before = before} rest (read_walked {l} {ms} {r} clear there told) =
@@ -87,7 +87,7 @@ reports_add_up (next {replies = rs} a h s) = (report_right a, subst (λ c. Repor
 
 -- Questions
 
-few_read : {p q : PlainTap} {packet : List ℕ} {before marks : List Mark} {r : Result Reading ReadFault} (all : List Mark) → PlainRead p packet before r marks q → FewTold (reply.Read r all)
+few_read : {p q : PlainTap} {packet : List ℕ} {before marks : List Mark} {r : Result Reading PacketFault} (all : List Mark) → PlainRead p packet before r marks q → FewTold (reply.Read r all)
 few_read all (read_refused least) = tt
 few_read all (read_walked clear there told) = told.few
 
@@ -133,6 +133,7 @@ promised meaning s t u cs rs f e h =
       answers = answers;
       loads = loads_right (meaning s).capacity refl answers;
       reports = reports_add_up answers;
+      store = h.there.store;
       rows = subst (λ (z : Meaning). RowsFit h.after.tap.loaded z.rows) (sym h.there.store) (rows_held meaning u h.after h.there);
       few = few_in answers;
       questions = ap (λ (z : Meaning). z.questions) h.there.store ∙ questions_grow answers;

@@ -2,7 +2,7 @@
 use Rattle.std.specs.Prelude.{◌≡◌, ℕ, Bool, true, false, List, [], ◌∷◌, map, Ok, Err, Result}
 use Rattle.std.specs.Borrow.{Bor}
 use Rattle.readers.specs.declared.read.Reading.{Reading}
-use Rattle.taps.specs.declared.fault.ReadFault.{ReadFault}
+use Rattle.taps.specs.declared.fault.PacketFault.{PacketFault}
 use Rattle.runs.specs.declared.calls.Call.{Call}
 use Rattle.runs.specs.declared.calls.Call.TheVariants.{Load, Read, Report}
 use Rattle.runs.specs.declared.calls.Reply.{Reply}
@@ -26,7 +26,7 @@ accepts (reply.Read r marks) = false
 accepts (reply.Report t) = false
 
 -- an answer without its questions
-abbrev pub unasked : Result Reading ReadFault → Result Reading ReadFault
+abbrev pub unasked : Result Reading PacketFault → Result Reading PacketFault
 unasked (Ok r) = Ok (record { outcome = r.outcome; marks = r.marks; questions = 0 })
 unasked (Err e) = Err e
 

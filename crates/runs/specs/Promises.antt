@@ -66,19 +66,26 @@ FewTold (reply.Read (Ok r) marks) = (r.questions ≤ r.marks) × (r.marks ≤ 32
 FewTold (reply.Read (Err e) marks) = Unit {0}
 FewTold (reply.Report t) = Unit {0}
 
--- a tap t that was new over the store s, after calls and their replies
+-- What is promised of a tap t that was new over the store s, after calls and their replies
 pub record Promised {S : Type 0} (meaning : S → Meaning) (s : S) (t : Tap S) (calls : List Call) (replies : List Reply) : Type 0 where
-  -- call by call, answers and marks are the plain tap's, from nothing loaded and nothing counted on; a read's questions are as many
-  -- as the turns', and as the marks where the plan has no chains
+  -- the plain tap and the store beside it, after the last call
   pub last : World
+  -- call by call, answers and marks are the plain tap's, from nothing loaded and nothing counted on, and a refused call changes nothing;
+  -- a read's questions are as many as the turns', and as the marks where the plan has no chains
   pub answers : Succession (world fresh (meaning s)) calls replies last
+  -- a load is accepted exactly where nothing is against it, and else refused by the least that is
   pub loads : LoadsRight (meaning s).capacity calls replies
+  -- a report tells what the reads before it add up to, each count cut at 4,294,967,295
   pub reports : ReportsAddUp no_counts replies
-  -- the store has the rows of the graph and plan last accepted
+  -- the tap's store is the one beside the plain tap: no call but these has touched it
+  pub store : meaning t.inner.store ≡ last.store
+  -- it has the rows of the graph and plan last accepted
   pub rows : RowsFit last.tap.loaded (meaning t.inner.store).rows
-  -- its count grew by the questions that were told: of each read at most as many as its marks, which are at most 32
+  -- its count of questions grew by those that were told, modulo 2^64
   pub questions : (meaning t.inner.store).questions ≡ (after_questions (told_in replies) (meaning s)).questions
+  -- of each read these are at most its marks, which are at most 32
   pub few : AllByRecursion FewTold replies
+  -- its capacity is as at first
   pub capacity : (meaning t.inner.store).capacity ≡ (meaning s).capacity
-  -- and so the tap goes on
+  -- and the tap goes on from where the plain tap is
   pub follows : Follows meaning t last.tap

@@ -4,7 +4,7 @@ use compiler::fault::LoadFault;
 use headers::mark::Mark;
 use readers::read::Reading;
 use taps::counts::Report;
-use taps::fault::ReadFault;
+use taps::fault::PacketFault;
 
 /// A call of a tap. A read is lent as many marks as `room` says, and 32 at most.
 #[derive(Clone, Copy)]
@@ -14,12 +14,20 @@ pub enum Call<'a> {
     Report,
 }
 
-/// What a call answered. A read's marks stand at the front of 32.
+/// A mark of zeros, which no read writes.
+pub const NO_MARK: Mark = Mark {
+    node: 0,
+    kind: 0,
+    offset: 0,
+    length: 0,
+};
+
+/// What a call answered. A read's marks stand at the front of 32, and zeros behind them.
 #[derive(Clone, Copy, PartialEq, Eq, Debug)]
 pub enum Reply {
     Load(Result<(), LoadFault>),
     Read {
-        answer: Result<Reading, ReadFault>,
+        answer: Result<Reading, PacketFault>,
         marks: [Mark; 32],
     },
     Report(Report),

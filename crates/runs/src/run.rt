@@ -4,7 +4,7 @@ ghost use Rattle.taps.specs.Plain.{PlainTap};
 ghost use Rattle.taps.specs.Following.{Follows};
 ghost use Rattle.runs.specs.Successions.{no_marks, AnsweredAs, RunAs};
 
-use crate::calls::{Call, Reply};
+use crate::calls::{Call, NO_MARK, Reply};
 use headers::mark::Mark;
 use stores::store::Store;
 use taps::tap::Tap;
@@ -40,15 +40,9 @@ fn make<S: Store>(tap: &mut Tap<S>, call: Call<'_>) -> Reply
     }
 }
 
-// Marks of which none is written.
+// 32 marks of zeros.
 fn no_marks() -> [Mark; 32]
     ensures { result ≡ no_marks }
 {
-    let none = Mark {
-        node: 0,
-        kind: 0,
-        offset: 0,
-        length: 0,
-    };
-    [none; 32]
+    [NO_MARK; MOST_MARKS]
 }

@@ -18,8 +18,10 @@ pub struct Both<S, R> {
 }
 
 /// Two new taps, each over its own store. Each is made its own calls, one after the other, as long as
-/// there are calls and places for their replies. Where the calls are the same but for the plans, and
-/// both accept the same loads, the taps agree in all but questions.
+/// there are calls and places for their replies (`left_made`, `right_made`), and keeps what is promised
+/// of a tap (`left`, `right`). Where the calls are the same but for the plans, and both accept the same
+/// loads, the taps agree in all but questions (`agree`). Places behind the replies stay (`left_rest`,
+/// `right_rest`).
 pub fn side_by_side<S: Store, R: Store>(
     left: S,
     right: R,

@@ -15,7 +15,7 @@ use Rattle.taps.specs.declared.counts.Tally.{Tally}
 use Rattle.taps.specs.declared.counts.Endings.{Endings}
 use Rattle.taps.specs.declared.counts.Report.{Report}
 use Rattle.taps.specs.declared.inner.Inner.{Inner}
-use Rattle.taps.specs.Counts.{Counts, of_kind, marked, counted, capped, tally_of, endings_of, kinds, report_of, raised, one_more}
+use Rattle.taps.specs.Counts.{Counts, of_kind, with_marks, counted, capped, tally_of, endings_of, kinds, report_of, raised, one_more}
 use Rattle.taps.specs.Held.{SameButCounts, tallies, report_in, tally_in, with_tally, with_raised, with_mark}
 
 tally : (h n b m : ℕ) → h ≡ n → b ≡ m → ◌≡◌ {A = Tally} (record { headers = h; bytes = b }) (record { headers = n; bytes = m })
@@ -34,7 +34,7 @@ module _ (ms : List Mark) (m : Mark) (k : Kind) (b : Bool) (e : eqb m.kind (kind
 
 -- one mark more
 tally_more : (ms : List Mark) (m : Mark) (c : Counts) (k : Kind) (b : Bool) → eqb m.kind (kind_number k) ≡ b
-    → tally_of (marked (ms ++ (m ∷ [])) c) k ≡ cond b (raised m.length (tally_of (marked ms c) k)) (tally_of (marked ms c) k)
+    → tally_of (with_marks (ms ++ (m ∷ [])) c) k ≡ cond b (raised m.length (tally_of (with_marks ms c) k)) (tally_of (with_marks ms c) k)
 tally_more ms m c k true e =
     let more = of_kind_more ms m k true e in
     let headers = ap length more ∙ length-append (of_kind k ms) (m ∷ []) in
@@ -63,7 +63,7 @@ report : (ts us : List Tally) (e f : Endings) → ts ≡ us → e ≡ f → ◌�
 report ts us e f p q = cc
 
 -- no marks count nothing
-pub none_marked : (c : Counts) → report_of (marked [] c) ≡ report_of c
+pub none_marked : (c : Counts) → report_of (with_marks [] c) ≡ report_of c
 none_marked c = simp add-zero
 
 -- the kind of a number, if there is one
@@ -91,17 +91,17 @@ module _ {S : Type 0} (kind k : Kind) (i : Inner S) (n l : ℕ) (f : Kind → Ta
       go false h = refl
 
 -- a mark that is raised is counted
-pub mark_counted : {S : Type 0} (i : Inner S) (ms : List Mark) (m : Mark) (c : Counts) → report_in i ≡ report_of (marked ms c) → report_in (with_mark m i) ≡ report_of (marked (ms ++ (m ∷ [])) c)
+pub mark_counted : {S : Type 0} (i : Inner S) (ms : List Mark) (m : Mark) (c : Counts) → report_in i ≡ report_of (with_marks ms c) → report_in (with_mark m i) ≡ report_of (with_marks (ms ++ (m ∷ [])) c)
 mark_counted i ms m c e = go (kind_of m.kind) refl
   where
-    go : (o : Option Kind) → kind_of m.kind ≡ o → report_in (with_raised m o i) ≡ report_of (marked (ms ++ (m ∷ [])) c)
+    go : (o : Option Kind) → kind_of m.kind ≡ o → report_in (with_raised m o i) ≡ report_of (with_marks (ms ++ (m ∷ [])) c)
     go None h =
         let far = number_of_none m.kind h in
-        e ∙ sym (report _ _ _ _ (map_same (tally_of (marked (ms ++ (m ∷ [])) c)) (tally_of (marked ms c)) (λ k. tally_more ms m c k false (number_apart m.kind k far))) refl)
+        e ∙ sym (report _ _ _ _ (map_same (tally_of (with_marks (ms ++ (m ∷ [])) c)) (tally_of (with_marks ms c)) (λ k. tally_more ms m c k false (number_apart m.kind k far))) refl)
     go (Some kind) h =
         let ts = ap (λ (r : Report). r.tallies) e in
-        report _ _ _ _ (tally_put kind i _ (tally_of (marked ms c)) (tally_of (marked (ms ++ (m ∷ [])) c)) ts
-        (λ k. tally_more ms m c k (eqb m.kind (kind_number k)) refl ∙ raised_there kind k i m.kind m.length (tally_of (marked ms c)) (number_of m.kind kind h) ts))
+        report _ _ _ _ (tally_put kind i _ (tally_of (with_marks ms c)) (tally_of (with_marks (ms ++ (m ∷ [])) c)) ts
+        (λ k. tally_more ms m c k (eqb m.kind (kind_number k)) refl ∙ raised_there kind k i m.kind m.length (tally_of (with_marks ms c)) (number_of m.kind kind h) ts))
         (put_endings kind i _ ∙ ap (λ (r : Report). r.endings) e)
 
 pub rest_same : {S : Type 0} (a i : Inner S) (m : Mark) → SameButCounts a i → SameButCounts a (with_mark m i)
@@ -115,6 +115,6 @@ rest_same a i m e = go (kind_of m.kind)
 endings_counted : (e : Ending) (ms : List Mark) (c : Counts) → one_more e (endings_of c) ≡ endings_of (counted ms e c)
 endings_counted e ms c = grind arith
 
-pub read_counted : {S : Type 0} (i : Inner S) (ms : List Mark) (e : Ending) (c : Counts) → report_in i ≡ report_of (marked ms c)
+pub read_counted : {S : Type 0} (i : Inner S) (ms : List Mark) (e : Ending) (c : Counts) → report_in i ≡ report_of (with_marks ms c)
     → report_in (record i { endings = one_more e i.endings }) ≡ report_of (counted ms e c)
 read_counted i ms e c h = report _ _ _ _ (ap (λ (r : Report). r.tallies) h) (ap (λ (r : Report). one_more e r.endings) h ∙ endings_counted e ms c)

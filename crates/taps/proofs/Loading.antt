@@ -10,7 +10,7 @@ use Rattle.compiler.specs.Loading.{LoadApplies, Loaded}
 use Rattle.taps.specs.declared.tap.Tap.{Tap}
 use Rattle.taps.specs.Plain.{minimum, GraphAndPlan, PlainTap, loading}
 use Rattle.taps.specs.Plain.PlainLoad.{refused, accepted}
-use Rattle.taps.specs.Following.{LoadedAs, Follows, LoadAs}
+use Rattle.taps.specs.Following.{LoadedAs, Follows, LoadFollows}
 
 -- a tap with another store, and with another program
 abbrev pub over : {S : Type 0} → Tap S → S → Tap S
@@ -21,7 +21,7 @@ holding t s program = record { inner = record t.inner { store = s; program = Som
 
 module _ {S : Type 0} (meaning : S → Meaning) (t : Tap S) (s : S) (file plan : List ℕ) (p : PlainTap) (f : Follows meaning t p) where
   pub load_refused : (e : LoadFault) → Least of_load (LoadApplies minimum file plan (meaning t.inner.store).capacity) e → meaning s ≡ meaning t.inner.store
-      → LoadAs p file plan (meaning t.inner.store).capacity (Err e) (Follows meaning (over t s))
+      → LoadFollows p file plan (meaning t.inner.store).capacity (Err e) (Follows meaning (over t s))
   load_refused e least same = record {
     next = p;
     plain = refused least;
@@ -34,7 +34,7 @@ module _ {S : Type 0} (meaning : S → Meaning) (t : Tap S) (s : S) (file plan :
 
   pub load_accepted : (program : Program) → ((i : ℕ) → slice_index file i < 256) → ((e : LoadFault) → LoadApplies minimum file plan (meaning t.inner.store).capacity e → ⊥)
       → Loaded minimum file plan (meaning t.inner.store) (meaning s) program
-      → LoadAs p file plan (meaning t.inner.store).capacity (Ok tt) (Follows meaning (holding t s program))
+      → LoadFollows p file plan (meaning t.inner.store).capacity (Ok tt) (Follows meaning (holding t s program))
   load_accepted program bytes none l =
       let its : GraphAndPlan = record { graph = l.graph; chain = chain_in plan; accepted = record { file = file; bytes = bytes; read = l.read }; lawful = l.lawful } in
       record {

@@ -14,15 +14,15 @@ use Rattle.compiler.specs.declared.program.Program.{Program}
 use Rattle.readers.specs.declared.read.Reading.{Reading}
 use Rattle.readers.specs.Reading as readers
 use Rattle.readers.specs.Reading.{after_questions, Programmed}
-use Rattle.taps.specs.declared.fault.ReadFault.{ReadFault}
+use Rattle.taps.specs.declared.fault.PacketFault.{PacketFault}
 use Rattle.taps.specs.declared.inner.Inner.{Inner}
 use Rattle.taps.specs.declared.tap.Tap.{Tap}
-use Rattle.taps.specs.Faults.{of_read, ReadApplies}
+use Rattle.taps.specs.Faults.{of_packet, PacketApplies}
 use Rattle.taps.specs.Counts.{Counts, report_of, counted}
 use Rattle.taps.specs.Held.{report_in, SameButCounts}
 use Rattle.taps.specs.Plain.{minimum, GraphAndPlan, PlainTap, counting, Tells, PlainRead}
 use Rattle.taps.specs.Plain.PlainRead.{refused, walked}
-use Rattle.taps.specs.Following.{LoadedAs, Follows, ReadAs}
+use Rattle.taps.specs.Following.{LoadedAs, Follows, ReadFollows}
 use Rattle.taps.proofs.Refused.{none_applies}
 
 -- questions leave the rows
@@ -49,7 +49,7 @@ some_loaded (Some l) None rows program h e = absurd h
 some_loaded (Some l) (Some q) rows program h e = let same : q ≡ program = cc in (l, refl, subst (λ z. Programmed minimum l.graph l.chain z rows) same h)
 
 module _ {S : Type 0} (meaning : S → Meaning) (t : Tap S) (packet : List ℕ) (before : List Mark) (p : PlainTap) (f : Follows meaning t p) where
-  pub read_refused : (e : ReadFault) → Least of_read (ReadApplies (length packet) (length before) p.loaded) e → ReadAs p packet before before (Err e) (Follows meaning t)
+  pub read_refused : (e : PacketFault) → Least of_packet (PacketApplies (length packet) (length before) p.loaded) e → ReadFollows p packet before before (Err e) (Follows meaning t)
   read_refused e least = record { next = p; plain = refused least; follows = f }
 
   -- the marks at the front, by their number
@@ -62,7 +62,7 @@ module _ {S : Type 0} (meaning : S → Meaning) (t : Tap S) (packet : List ℕ) 
       → readers.ReadAs (minimum_in t.inner.table) g chain packet before after r)
       (counts : (c : Counts) → report_in t.inner ≡ report_of c → report_in i ≡ report_of (counted (take r.marks after) r.outcome.ending c))
       (rest : SameButCounts (record t.inner { store = s }) i) (short : length packet ≤ 9600) (enough : 32 ≤ length before) where
-    pub read_walked : ReadAs p packet before after (Ok r) (Follows meaning (record { inner = i }))
+    pub read_walked : ReadFollows p packet before after (Ok r) (Follows meaning (record { inner = i }))
     read_walked =
         let rows = (meaning t.inner.store).rows in
         let some = some_loaded p.loaded t.inner.program rows program f.loaded there in

@@ -25,8 +25,8 @@ abbrev pub of_kind : Kind → List Mark → List Mark
 of_kind k ms = filter (λ (m : Mark). m.kind == kind_number k) ms
 
 -- each mark adds one header and its length to its kind
-abbrev pub marked : List Mark → Counts → Counts
-marked ms c = record {
+abbrev pub with_marks : List Mark → Counts → Counts
+with_marks ms c = record {
   headers = λ k. c.headers k + length (of_kind k ms);
   bytes = λ k. c.bytes k + sum_by (λ (m : Mark). m.length) (of_kind k ms);
   endings = c.endings;
@@ -35,8 +35,8 @@ marked ms c = record {
 -- and the ending adds one to its count
 abbrev pub counted : List Mark → Ending → Counts → Counts
 counted ms e c = record {
-  headers = (marked ms c).headers;
-  bytes = (marked ms c).bytes;
+  headers = (with_marks ms c).headers;
+  bytes = (with_marks ms c).bytes;
   endings = λ d. c.endings d + cond (ending_number d == ending_number e) 1 0;
 }
 

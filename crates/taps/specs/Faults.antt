@@ -5,14 +5,14 @@ use Rattle.refusals.specs.declared.refusal.Refusal.{Refusal}
 use Rattle.refusals.specs.Searching.{unless}
 use Rattle.walker.specs.Faults.{of_room}
 use Rattle.walker.specs.Refusals.{most_bytes, most_marks}
-use Rattle.taps.specs.declared.fault.ReadFault.{ReadFault}
-use Rattle.taps.specs.declared.fault.ReadFault.TheVariants.{LongPacket, FewMarks, NothingLoaded}
+use Rattle.taps.specs.declared.fault.PacketFault.{PacketFault}
+use Rattle.taps.specs.declared.fault.PacketFault.TheVariants.{LongPacket, FewMarks, NothingLoaded}
 
 -- 10 to 12, of the layer 'read', with no place
-abbrev pub of_read : ReadFault → Refusal
-of_read LongPacket = of_room 10
-of_read FewMarks = of_room 11
-of_read NothingLoaded = of_room 12
+abbrev pub of_packet : PacketFault → Refusal
+of_packet LongPacket = of_room 10
+of_packet FewMarks = of_room 11
+of_packet NothingLoaded = of_room 12
 
 -- whether something is loaded
 abbrev pub is_loaded : {X : Type 0} → Option X → Bool
@@ -21,11 +21,11 @@ is_loaded (Some x) = true
 
 module _ {X : Type 0} (size room : ℕ) (loaded : Option X) where
   -- in words: a packet of more than 9,600 bytes; room for fewer than 32 marks; nothing loaded
-  abbrev pub ReadApplies : ReadFault → Type 0
-  ReadApplies LongPacket = most_bytes < size
-  ReadApplies FewMarks = room < most_marks
-  ReadApplies NothingLoaded = loaded ≡ None
+  abbrev pub PacketApplies : PacketFault → Type 0
+  PacketApplies LongPacket = most_bytes < size
+  PacketApplies FewMarks = room < most_marks
+  PacketApplies NothingLoaded = loaded ≡ None
 
   -- the first of them, as a test
-  abbrev pub read_fault : Option ReadFault
-  read_fault = option_or (unless (nat_le size most_bytes) LongPacket) (option_or (unless (nat_le most_marks room) FewMarks) (unless (is_loaded loaded) NothingLoaded))
+  abbrev pub packet_fault : Option PacketFault
+  packet_fault = option_or (unless (nat_le size most_bytes) LongPacket) (option_or (unless (nat_le most_marks room) FewMarks) (unless (is_loaded loaded) NothingLoaded))

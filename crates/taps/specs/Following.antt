@@ -12,7 +12,7 @@ use Rattle.compiler.specs.declared.program.Program.{Program}
 use Rattle.compiler.specs.Loading.{storing}
 use Rattle.readers.specs.declared.read.Reading.{Reading}
 use Rattle.readers.specs.Reading.{Programmed}
-use Rattle.taps.specs.declared.fault.ReadFault.{ReadFault}
+use Rattle.taps.specs.declared.fault.PacketFault.{PacketFault}
 use Rattle.taps.specs.declared.tap.Tap.{Tap}
 use Rattle.taps.specs.Counts.{report_of}
 use Rattle.taps.specs.Held.{report_in}
@@ -33,13 +33,13 @@ pub record Follows {S : Type 0} (meaning : S → Meaning) (t : Tap S) (p : Plain
   pub counts : report_in t.inner ≡ report_of p.counts
 
 -- a load is answered as the plain tap's, and Q holds of the plain tap after it
-pub record LoadAs (p : PlainTap) (file plan : List ℕ) (capacity : ℕ) (r : Result (Unit {0}) LoadFault) (Q : PlainTap → Type 0) : Type 0 where
+pub record LoadFollows (p : PlainTap) (file plan : List ℕ) (capacity : ℕ) (r : Result (Unit {0}) LoadFault) (Q : PlainTap → Type 0) : Type 0 where
   pub next : PlainTap
   pub plain : PlainLoad p file plan capacity r next
   pub follows : Q next
 
 -- a read likewise, with the marks that it leaves
-pub record ReadAs (p : PlainTap) (packet : List ℕ) (before after : List Mark) (r : Result Reading ReadFault) (Q : PlainTap → Type 0) : Type 0 where
+pub record ReadFollows (p : PlainTap) (packet : List ℕ) (before after : List Mark) (r : Result Reading PacketFault) (Q : PlainTap → Type 0) : Type 0 where
   pub next : PlainTap
   pub plain : PlainRead p packet before r after next
   pub follows : Q next
@@ -50,6 +50,6 @@ after_load (Ok u) file plan m = storing m (store_rows (nodes_in file) (chain_in 
 after_load (Err e) file plan m = m
 
 -- the questions of a read: none, if it is refused
-abbrev pub questions_in : Result Reading ReadFault → ℕ
+abbrev pub questions_in : Result Reading PacketFault → ℕ
 questions_in (Ok r) = r.questions
 questions_in (Err e) = 0

@@ -17,8 +17,8 @@ use Rattle.compiler.specs.declared.fault.LoadFault.{LoadFault}
 use Rattle.compiler.specs.Faults.{of_load}
 use Rattle.compiler.specs.Loading.{LoadApplies}
 use Rattle.readers.specs.declared.read.Reading.{Reading}
-use Rattle.taps.specs.declared.fault.ReadFault.{ReadFault}
-use Rattle.taps.specs.Faults.{of_read, ReadApplies}
+use Rattle.taps.specs.declared.fault.PacketFault.{PacketFault}
+use Rattle.taps.specs.Faults.{of_packet, PacketApplies}
 use Rattle.taps.specs.Counts.{Counts, no_counts, counted}
 
 -- the fewest bytes of each kind
@@ -67,7 +67,7 @@ pub record Tells (l : GraphAndPlan) (packet : List ℕ) (ms : List Mark) (r : Re
 -- A read of a packet, where some marks are lent: what is answered, the marks after it, and the plain tap after it. Refused by the
 -- least of 10 to 12 that applies, and then nothing changes; where none applies, the walk's marks stand in order at the front, those
 -- behind are as before, and the read is counted
-pub data PlainRead (p : PlainTap) (packet : List ℕ) (before : List Mark) : Result Reading ReadFault → List Mark → PlainTap → Type 0 where
-  refused : {e : ReadFault} → Least of_read (ReadApplies (length packet) (length before) p.loaded) e → PlainRead p packet before (Err e) before p
-  walked : {l : GraphAndPlan} {ms : List Mark} {r : Reading} → ((e : ReadFault) → ReadApplies (length packet) (length before) p.loaded e → ⊥)
+pub data PlainRead (p : PlainTap) (packet : List ℕ) (before : List Mark) : Result Reading PacketFault → List Mark → PlainTap → Type 0 where
+  refused : {e : PacketFault} → Least of_packet (PacketApplies (length packet) (length before) p.loaded) e → PlainRead p packet before (Err e) before p
+  walked : {l : GraphAndPlan} {ms : List Mark} {r : Reading} → ((e : PacketFault) → PacketApplies (length packet) (length before) p.loaded e → ⊥)
       → p.loaded ≡ Some l → Tells l packet ms r → PlainRead p packet before (Ok r) (ms ++ drop (length ms) before) (counting (counted ms r.outcome.ending p.counts) p)

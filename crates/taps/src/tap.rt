@@ -4,14 +4,14 @@ ghost use Rattle.refusals.specs.Searching.{fault_of};
 ghost use Rattle.headers.specs.Table.{minimum_in, standard_table};
 ghost use Rattle.compiler.specs.Loading.{load_fault};
 ghost use Rattle.readers.specs.Reading.{after_questions};
-ghost use Rattle.taps.specs.Faults.{read_fault};
+ghost use Rattle.taps.specs.Faults.{packet_fault};
 ghost use Rattle.taps.specs.Counts.{report_of};
 ghost use Rattle.taps.specs.Held.{report_in};
 ghost use Rattle.taps.specs.Plain.{PlainTap, fresh};
-ghost use Rattle.taps.specs.Following.{Follows, LoadAs, ReadAs, after_load, questions_in};
+ghost use Rattle.taps.specs.Following.{Follows, LoadFollows, ReadFollows, after_load, questions_in};
 
 use crate::counts::Report;
-use crate::fault::ReadFault;
+use crate::fault::PacketFault;
 use crate::inner::Inner;
 use compiler::compile::compile;
 use compiler::fault::LoadFault;
@@ -42,9 +42,11 @@ impl<S: Store> Tap<S> {
     /// and then nothing changes. The counts stay in any case.
     pub fn load(&mut self, file: &[u8], plan: &[u8]) -> Result<(), LoadFault>
         ensures is { fault_of result ≡ load_fault (minimum_in standard_table) file.now plan.now (S.Store.meaning self.old.inner.store).capacity }
+        ensures kept { OnErr result (self.new ≡ self.old) }
+        ensures counts { report_in self.new.inner ≡ report_in self.old.inner }
         ensures store { S.Store.meaning self.new.inner.store ≡ after_load result file.now plan.now (S.Store.meaning self.old.inner.store) }
         ensures capacity { (S.Store.meaning self.new.inner.store).capacity ≡ (S.Store.meaning self.old.inner.store).capacity }
-        ensures follows { (p : PlainTap) → Follows S.Store.meaning self.old p → LoadAs p file.now plan.now (S.Store.meaning self.old.inner.store).capacity result (Follows S.Store.meaning self.new) }
+        ensures follows { (p : PlainTap) → Follows S.Store.meaning self.old p → LoadFollows p file.now plan.now (S.Store.meaning self.old.inner.store).capacity result (Follows S.Store.meaning self.new) }
     {
         let mut program = Program::none();
         compile(file, plan, &mut self.inner.store, &mut program)?;
@@ -56,22 +58,22 @@ impl<S: Store> Tap<S> {
     /// and counts the marks and the ending; the marks behind stay. Refused by 10 if the packet has
     /// more than 9,600 bytes, then by 11 if there are fewer than 32 marks, then by 12 if nothing is
     /// loaded, and then nothing changes.
-    pub fn read(&mut self, packet: &[u8], marks: &mut [Mark]) -> Result<Reading, ReadFault>
-        ensures is { fault_of result ≡ read_fault (length packet.now) (length marks.old) self.old.inner.program }
+    pub fn read(&mut self, packet: &[u8], marks: &mut [Mark]) -> Result<Reading, PacketFault>
+        ensures is { fault_of result ≡ packet_fault (length packet.now) (length marks.old) self.old.inner.program }
         ensures kept { OnErr result ((self.new ≡ self.old) × (marks.new ≡ marks.old)) }
         ensures store { S.Store.meaning self.new.inner.store ≡ after_questions (questions_in result) (S.Store.meaning self.old.inner.store) }
         ensures capacity { (S.Store.meaning self.new.inner.store).capacity ≡ (S.Store.meaning self.old.inner.store).capacity }
-        ensures follows { (p : PlainTap) → Follows S.Store.meaning self.old p → ReadAs p packet.now marks.old marks.new result (Follows S.Store.meaning self.new) }
+        ensures follows { (p : PlainTap) → Follows S.Store.meaning self.old p → ReadFollows p packet.now marks.old marks.new result (Follows S.Store.meaning self.new) }
     {
         if packet.len() > MOST_PACKET {
-            return Err(ReadFault::LongPacket);
+            return Err(PacketFault::LongPacket);
         }
         if marks.len() < MOST_MARKS {
-            return Err(ReadFault::FewMarks);
+            return Err(PacketFault::FewMarks);
         }
         let inner = &mut self.inner;
         let Some(program) = &inner.program else {
-            return Err(ReadFault::NothingLoaded);
+            return Err(PacketFault::NothingLoaded);
         };
         let reading = read(&inner.table, program, &mut inner.store, packet, marks);
         inner.count(&marks[..reading.marks], reading.outcome.ending);

@@ -16,8 +16,8 @@ returns-then-in_one_look c = λ g chain stands law near few.
     let minimum = minimum_in self.table.now in
     let same = ap nodes_of c.asked.ensures.chain in
     subst (λ cs. Asks minimum g chain self.packet.now self.node self.at cs c.asked.result.question) (sym same)
-    (asks_chain minimum g chain self.program.now stands self.packet.now self.node self.at head.result.window (head.ensures.window ∙ (stands.heads self.node).window) law (omega (arith, few))
-    c.asked.result.question (nodes_of head.result.chain) (head.ensures.chain ∙ (stands.heads self.node).behind) (sym c.in_one_look.ensures ∙ c.if-in_one_look.true) c.asked.ensures.question)
+    (asks_chain minimum g chain self.program.now stands self.packet.now self.node self.at head.result.now.window (head.ensures.window ∙ (stands.heads self.node).window) law (omega (arith, few))
+    c.asked.result.question (nodes_of head.result.now.chain) (head.ensures.chain ∙ (stands.heads self.node).behind) (sym c.in_one_look.ensures ∙ c.if-in_one_look.true) c.asked.ensures.question)
 
 pub returns-in-Err : goal.returns-in-Err
 returns-in-Err c = λ g chain stands law near few.
@@ -25,9 +25,9 @@ returns-in-Err c = λ g chain stands law near few.
     let head = c.head_of-head in
     let minimum = minimum_in self.table.now in
     let view = ap (λ v. v.kind) head.ensures.node in
-    ends_as minimum g chain self.program.now stands self.packet.now self.node self.at head.result.window (head.ensures.window ∙ (stands.heads self.node).window)
-    (nodes_of head.result.chain) (head.ensures.chain ∙ (stands.heads self.node).behind) (sym c.in_one_look.ensures ∙ c.if-in_one_look.false)
-    head.result.length c.as_slice.result.now c.minimum-minimum.result
+    ends_as minimum g chain self.program.now stands self.packet.now self.node self.at head.result.now.window (head.ensures.window ∙ (stands.heads self.node).window)
+    (nodes_of head.result.now.chain) (head.ensures.chain ∙ (stands.heads self.node).behind) (sym c.in_one_look.ensures ∙ c.if-in_one_look.false)
+    head.result.now.length c.as_slice.result.now c.minimum-minimum.result
     (ap (λ v. v.len) head.ensures.node ∙ same_length g self.packet.now self.program.now chain stands self.node)
     (c.as_slice.ensures.is ∙ ap (λ v. v.places) head.ensures.node ∙ same_places g self.packet.now self.program.now chain stands self.node)
     (c.minimum-minimum.ensures ∙ ap minimum (view ∙ same_kind g self.packet.now self.program.now chain stands self.node))
@@ -38,9 +38,9 @@ returns-in-Ok c = λ g chain stands law near few.
     let self = c.args.self.now in
     let head = c.head_of-head in
     let minimum = minimum_in self.table.now in
-    asks_alone minimum g chain self.program.now stands self.packet.now self.node self.at head.result.window (head.ensures.window ∙ (stands.heads self.node).window)
-    (nodes_of head.result.chain) (head.ensures.chain ∙ (stands.heads self.node).behind) (sym c.in_one_look.ensures ∙ c.if-in_one_look.false)
-    head.result.length c.as_slice.result.now c.minimum-minimum.result
+    asks_alone minimum g chain self.program.now stands self.packet.now self.node self.at head.result.now.window (head.ensures.window ∙ (stands.heads self.node).window)
+    (nodes_of head.result.now.chain) (head.ensures.chain ∙ (stands.heads self.node).behind) (sym c.in_one_look.ensures ∙ c.if-in_one_look.false)
+    head.result.now.length c.as_slice.result.now c.minimum-minimum.result
     (ap (λ v. v.len) head.ensures.node ∙ same_length g self.packet.now self.program.now chain stands self.node)
     (c.as_slice.ensures.is ∙ ap (λ v. v.places) head.ensures.node ∙ same_places g self.packet.now self.program.now chain stands self.node)
     (c.minimum-minimum.ensures ∙ ap minimum (ap (λ v. v.kind) head.ensures.node ∙ same_kind g self.packet.now self.program.now chain stands self.node))

@@ -1,7 +1,7 @@
 use Rattle.std.proofs.Common.{take, get_or, arith, sym, refl, ap, ◌∙◌, subst}
 use Rattle.std.proofs.lemmas.List.{take_more, take_all}
 use Rattle.headers.specs.declared.mark.Mark.{Mark}
-use Rattle.taps.specs.Counts.{report_of, marked}
+use Rattle.taps.specs.Counts.{report_of, with_marks}
 use Rattle.taps.specs.Held.{SameButCounts, report_in}
 use Rattle.taps.proofs.Counting.{none_marked, mark_counted, rest_same, read_counted}
 use Rattle.taps.proofs.inner.Inner.count.Goals as goal
@@ -18,7 +18,7 @@ loop-mark-preserved g c =
     record {
       counts = λ d e.
           ap report_in c.raise.ensures ∙ mark_counted l.self ms m d (l.invariant.counts d e)
-          ∙ ap (λ xs. report_of (marked xs d)) (sym (take_more c.args.marks.now l.mark-index none c.loop-mark-test.true));
+          ∙ ap (λ xs. report_of (with_marks xs d)) (sym (take_more c.args.marks.now l.mark-index none c.loop-mark-test.true));
       rest = subst (SameButCounts c.args.self.now) (sym c.raise.ensures) (rest_same c.args.self.now l.self m l.invariant.rest);
     }
 
@@ -29,6 +29,6 @@ returns g c =
     record {
       counts = λ d e.
           ap (λ es. report_in (record l.self { endings = es })) c.raise-2.ensures
-          ∙ read_counted l.self c.args.marks.now c.args.ending d (l.invariant.counts d e ∙ ap (λ xs. report_of (marked xs d)) all);
+          ∙ read_counted l.self c.args.marks.now c.args.ending d (l.invariant.counts d e ∙ ap (λ xs. report_of (with_marks xs d)) all);
       rest = record { store = l.invariant.rest.store; table = l.invariant.rest.table; program = l.invariant.rest.program };
     }

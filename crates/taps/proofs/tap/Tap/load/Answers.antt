@@ -1,7 +1,7 @@
 use Rattle.std.proofs.Common.{Err, Result, sym, ap, ◌∙◌, subst, arith}
 use Rattle.std.proofs.lemmas.Result.{err_from_is_err_and}
 use Rattle.compiler.specs.declared.fault.LoadFault.{LoadFault}
-use Rattle.taps.specs.Following.{Follows, LoadAs}
+use Rattle.taps.specs.Following.{Follows, LoadFollows}
 use Rattle.taps.proofs.Loading.{over, load_refused, load_accepted}
 use Rattle.taps.proofs.tap.Tap.load.Goals as goal
 
@@ -11,8 +11,8 @@ returns-in_err-compile-clause-follows g c = λ p f.
     let t = c.args.self.now in
     let e = err_from_is_err_and c.from_residual.result c.from_residual.ensures.1 in
     let h = c.in_err-compile.ensures in
-    subst (λ (r : Result (Unit {0}) LoadFault). LoadAs p c.args.file.now c.args.plan.now (meaning t.inner.store).capacity r (Follows meaning (over t c.compile.new.store))) (sym (e.1 ∙ ap Err e.2))
-    (load_refused meaning t c.compile.new.store c.args.file.now c.args.plan.now p f c.in_err-compile.field-0.0 h.answers h.kept.0)
+    subst (λ (r : Result (Unit {0}) LoadFault). LoadFollows p c.args.file.now c.args.plan.now (meaning t.inner.store).capacity r (Follows meaning (over t c.compile.new.store))) (sym (e.1 ∙ ap Err e.2))
+    (load_refused meaning t c.compile.new.store c.args.file.now c.args.plan.now p f c.in_err-compile.field-0.0 h.answers (ap meaning h.kept.0))
 
 pub returns-clause-follows : goal.returns-clause-follows
 returns-clause-follows g c = λ p f.

@@ -1,34 +1,10 @@
-// The demonstration: a graph made here is written, read, checked, shown and copied.
-use crate::failure::Failure;
-use crate::files::{copy_of, file_of};
-use crate::graph_text::{print_accepted, print_graph};
-use graph_reader::read::read_graph;
+// The graph of the demonstration.
 use graphs::graph::{Graph, Length, NODES, Node, PLACES, ROWS, Rows};
 use headers::kinds::Kind;
 use patterns::row::{Target, TernaryRow};
 
-/// Writes the graph of Ethernet, a VLAN tag, IPv4 and TCP, reads it back, checks, shows and copies
-/// it, all in memory.
-pub fn demo<'a>(rt: &(impl Print + AllocGlobal)) -> Result<(), Failure<'a>> {
-    let bytes = file_of(rt.alloc(), &ethernet_to_tcp())?;
-    let count = bytes.len();
-    println!(rt; "write: Ethernet, a VLAN tag, IPv4 and TCP make a file of {count} bytes")?;
-    let graph = read_graph(bytes.as_slice())?;
-    print!(rt; "check: ")?;
-    print_accepted(rt, &graph)?;
-    println!(rt; "show:")?;
-    print_graph(rt, &graph)?;
-    let copied = copy_of(rt.alloc(), bytes.as_slice())?;
-    if copied.as_slice() != bytes.as_slice() {
-        return Err(Failure::Differs);
-    }
-    println!(rt; "copy: {count} bytes, the same")?;
-    println!(rt; "demo: written, read back, checked, shown and copied")?;
-    Ok(())
-}
-
-// Ethernet, a VLAN tag, IPv4 and TCP, each one where the one before it leads.
-fn ethernet_to_tcp() -> Graph {
+/// Ethernet, a VLAN tag, IPv4 and TCP, each one where the one before it leads.
+pub fn ethernet_to_tcp() -> Graph {
     let mut nodes = [node(Kind::Other, Length::Fixed(1), &[], &[]); NODES];
     nodes[0] = node(
         Kind::Ethernet,

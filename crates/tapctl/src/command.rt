@@ -1,7 +1,9 @@
 // The commands of the program: how they are written, and what each does.
 use crate::compare_text::Comparison;
+use crate::demo::demo;
+use crate::job::Job;
+use crate::packets::Detail;
 use crate::plan_words::plan_of;
-use crate::read_text::{Detail, Job};
 use crate::table_text::{NoStore, StoreKind, print_table};
 use crate::walk_text::print_walks;
 use console::basic::Basic;
@@ -10,7 +12,7 @@ use console::files::{bytes_of, graph_of, put};
 use plans::count::row_count;
 use plans::read::read_plan;
 use refusals::refusal::Refusal;
-use std::rt::Files;
+use std::rt::{Clock, Files};
 
 /// What the program can be told to do.
 #[derive(Clone, Copy)]
@@ -32,16 +34,24 @@ pub enum Command<'w, 'a> {
     },
     Read(ReadFiles<'a>),
     Compare(CompareFiles<'a>),
+    Demo,
 }
 
-/// The files of a graph, a plan and packets, the store of the tap that reads, and what is printed.
+/// What packets are read for: what they are read as is printed, or how long the reading takes.
+#[derive(Clone, Copy)]
+pub enum Purpose {
+    Print(Detail),
+    Time,
+}
+
+/// The files of a graph, a plan and packets, the store of the tap that reads, and what for.
 #[derive(Clone, Copy)]
 pub struct ReadFiles<'a> {
     file: &'a str,
     plan: &'a str,
     packets: &'a str,
     store: StoreKind,
-    detail: Detail,
+    purpose: Purpose,
 }
 
 /// The files of a graph, of the plans of two taps, and of packets.
@@ -83,8 +93,13 @@ impl<'w, 'a> Command<'w, 'a> {
                 right: *right,
                 packets: *packets,
             })),
-            ["read", "--summary", words @ ..] => Command::read(words, Detail::Summary),
-            ["read", words @ ..] => Command::read(words, Detail::Packets),
+            ["demo"] => Ok(Command::Demo),
+            ["read", "--summary", words @ ..] => Command::read(
+                words,
+                Purpose::Print(Detail::Summary),
+            ),
+            ["read", words @ ..] => Command::read(words, Purpose::Print(Detail::Packets)),
+            ["time", words @ ..] => Command::read(words, Purpose::Time),
             words => Basic::parse(words)
                 .map(Command::Basic)
                 .ok_or(Failure::Usage(USAGE)),
@@ -92,7 +107,7 @@ impl<'w, 'a> Command<'w, 'a> {
     }
 
     // The command to read packets that the words behind it say.
-    fn read(words: &[&'a str], detail: Detail) -> Result<Command<'w, 'a>, Failure<'a>> {
+    fn read(words: &[&'a str], purpose: Purpose) -> Result<Command<'w, 'a>, Failure<'a>> {
         let (files, store) = match words {
             [files @ .., store] if files.len() == 3 => (files, store.parse()?),
             files => (files, StoreKind::Listing),
@@ -103,14 +118,17 @@ impl<'w, 'a> Command<'w, 'a> {
                 plan: *plan,
                 packets: *packets,
                 store,
-                detail,
+                purpose,
             })),
             _ => Err(Failure::Usage(USAGE)),
         }
     }
 
     /// Carries out the command.
-    pub fn carry_out(self, rt: &(impl Files + Print + AllocGlobal)) -> Result<(), Failure<'a>> {
+    pub fn carry_out(
+        self,
+        rt: &(impl Files + Print + Eprint + Clock + AllocGlobal),
+    ) -> Result<(), Failure<'a>> {
         match self {
             Command::Basic(command) => command.carry_out(rt),
             Command::Walk { file, packets } => walk(rt, file, packets),
@@ -118,13 +136,17 @@ impl<'w, 'a> Command<'w, 'a> {
             Command::Table { file, plan, store } => table(rt, file, plan, store),
             Command::Read(files) => files.carry_out(rt),
             Command::Compare(files) => files.carry_out(rt),
+            Command::Demo => demo(rt),
         }
     }
 }
 
 impl<'a> ReadFiles<'a> {
     // Reads the packets by a tap.
-    fn carry_out(self, rt: &(impl Files + Print + AllocGlobal)) -> Result<(), Failure<'a>> {
+    fn carry_out(
+        self,
+        rt: &(impl Files + Print + Eprint + Clock + AllocGlobal),
+    ) -> Result<(), Failure<'a>> {
         let file = bytes_of(rt, self.file)?;
         let plan = bytes_of(rt, self.plan)?;
         let packets = bytes_of(rt, self.packets)?;
@@ -132,15 +154,20 @@ impl<'a> ReadFiles<'a> {
             file: file.as_slice(),
             plan: plan.as_slice(),
             packets: packets.as_slice(),
-            detail: self.detail,
         };
-        job.print(rt, self.store)
+        match self.purpose {
+            Purpose::Print(detail) => job.print(rt, self.store, detail),
+            Purpose::Time => job.print_times(rt, self.store),
+        }
     }
 }
 
 impl<'a> CompareFiles<'a> {
     // Reads the packets by two taps side by side.
-    fn carry_out(self, rt: &(impl Files + Print + AllocGlobal)) -> Result<(), Failure<'a>> {
+    fn carry_out(
+        self,
+        rt: &(impl Files + Print + Eprint + AllocGlobal),
+    ) -> Result<(), Failure<'a>> {
         let file = bytes_of(rt, self.file)?;
         let left = bytes_of(rt, self.left)?;
         let right = bytes_of(rt, self.right)?;
@@ -163,7 +190,7 @@ impl<'a> From<NoStore> for Failure<'a> {
 
 // Walks a packet, or each packet of a capture, through the graph.
 fn walk<'a>(
-    rt: &(impl Files + Print + AllocGlobal),
+    rt: &(impl Files + Print + Eprint + AllocGlobal),
     file: &'a str,
     packets: &'a str,
 ) -> Result<(), Failure<'a>> {
@@ -174,7 +201,7 @@ fn walk<'a>(
 
 // Writes a plan for the graph, with the chains that the words say.
 fn plan<'a>(
-    rt: &(impl Files + Print + AllocGlobal),
+    rt: &(impl Files + Print + Eprint + AllocGlobal),
     file: &'a str,
     out: &'a str,
     chains: &[&'a str],
@@ -191,7 +218,7 @@ fn plan<'a>(
 
 // Shows the rows of graph and plan.
 fn table<'a>(
-    rt: &(impl Files + Print + AllocGlobal),
+    rt: &(impl Files + Print + Eprint + AllocGlobal),
     file: &'a str,
     plan: &'a str,
     store: StoreKind,
@@ -212,8 +239,11 @@ pub const USAGE: &str = "usage: tapctl COMMAND
   read [--summary] FILE PLAN PACKETS [STORE]
                            loads graph and plan into a tap, reads a packet or those of a capture by questions
                            to the store, and prints the marks, the endings and the report
+  time FILE PLAN PACKETS [STORE]
+                           times loads of graph and plan into a tap, and reads of the packets over and over
   compare FILE PLAN PLAN PACKETS
                            reads the packets by two taps, one for each plan, and prints the questions of both
-  demo                     checks, shows and copies a graph that the program makes
+  demo                     goes the whole way with a graph that the program makes: from its file to the report of a tap
   stores                   fills and asks the stores, and prints what they say side by side
-  script                   takes commands from standard input, one to a line";
+  session [STORE]          one tap, told what to do by lines of standard input: load FILE PLAN, read PACKETS, report
+  script                   takes commands from standard input, one to a line, and such lines of a session between them";

@@ -1,7 +1,5 @@
 // Two taps side by side, as a person reads them: one graph, two plans, the same packets.
-use captures::fault::CaptureFault;
-use captures::format::{HEADER, is_capture, open};
-use captures::records::Records;
+use crate::packets::Packets;
 use console::failure::Failure;
 use readers::read::Reading;
 use refusals::refusal::Refusal;
@@ -10,8 +8,7 @@ use runs::side::side_by_side;
 use std::alloc::Global;
 use std::io;
 use stores::listing::Listing;
-use taps::fault::ReadFault;
-use walker::walk::MOST_MARKS;
+use taps::fault::PacketFault;
 
 /// A graph file, the plans of two taps, and the packets that both read: a capture, or one packet.
 #[derive(Clone, Copy)]
@@ -36,10 +33,9 @@ impl<'a> Comparison<'a> {
     /// printed.
     pub fn print<'f>(&self, rt: &(impl Print + AllocGlobal)) -> Result<(), Failure<'f>> {
         let heap = rt.alloc();
-        let mut packets = Vec::new(heap);
-        let cut = self.collect(&mut packets)?;
-        let left = self.calls(heap, self.left, packets.as_slice())?;
-        let right = self.calls(heap, self.right, packets.as_slice())?;
+        let packets = Packets::of(heap, self.packets)?;
+        let left = self.calls(heap, self.left, &packets)?;
+        let right = self.calls(heap, self.right, &packets)?;
         let mut left_replies = vec![in heap; Reply::Load(Ok(())); left.len()]?;
         let mut right_replies = vec![in heap; Reply::Load(Ok(())); right.len()]?;
         let _taps = side_by_side(
@@ -51,26 +47,7 @@ impl<'a> Comparison<'a> {
             right_replies.as_mut_slice(),
         );
         print_replies(rt, left_replies.as_slice(), right_replies.as_slice())?;
-        cut.map_or(Ok(()), |fault| Err(Failure::Capture(fault)))
-    }
-
-    // The packets, in order, up to one that is cut, whose fault is answered.
-    fn collect<'f>(
-        &self,
-        packets: &mut Vec<&'a [u8]>,
-    ) -> Result<Option<CaptureFault>, Failure<'f>> {
-        if !is_capture(self.packets) {
-            packets.push(self.packets)?;
-            return Ok(None);
-        }
-        let format = open(self.packets)?;
-        for record in Records::new(self.packets, format, HEADER) {
-            match record {
-                Ok(record) => packets.push(record.packet)?,
-                Err(fault) => return Ok(Some(fault)),
-            }
-        }
-        Ok(None)
+        packets.whole()
     }
 
     // The calls of a tap: the load, a read for each packet, and a report.
@@ -78,17 +55,12 @@ impl<'a> Comparison<'a> {
         &self,
         heap: Global,
         plan: &'a [u8],
-        packets: &[&'a [u8]],
+        packets: &Packets<'a>,
     ) -> Result<Vec<Call<'a>>, Failure<'f>> {
         let mut calls = Vec::new(heap);
         let file = self.file;
         calls.push(Call::Load { file, plan })?;
-        for packet in packets {
-            calls.push(Call::Read {
-                packet: *packet,
-                room: MOST_MARKS,
-            })?;
-        }
+        packets.push_reads(&mut calls)?;
         calls.push(Call::Report)?;
         Ok(calls)
     }
@@ -126,8 +98,8 @@ fn check_load<'f>(replies: &[Reply]) -> Result<(), Failure<'f>> {
 fn print_read(
     rt: &impl Print,
     number: usize,
-    left: &Result<Reading, ReadFault>,
-    right: &Result<Reading, ReadFault>,
+    left: &Result<Reading, PacketFault>,
+    right: &Result<Reading, PacketFault>,
 ) -> io::Result<Questions> {
     let mut asked = Questions { left: 0, right: 0 };
     match (left, right) {
