@@ -1,0 +1,4 @@
+pub mod Number
+pub mod Area
+pub mod Once
+pub mod Called

@@ -1,0 +1,43 @@
+// The tap as a C host calls it: one function, which reads one packet by a graph and a plan.
+
+#![tactic(auto)]
+
+ghost use Rattle.std.specs.Prelude.{◌≡◌, ℕ, List, length};
+ghost use Rattle.chost.specs.Area.{room};
+ghost use Rattle.chost.specs.Once.{call, trace};
+ghost use Rattle.chost.specs.Called.{answer_of, area_after, Called};
+
+mod area;
+mod number;
+mod once;
+mod tell;
+
+use area::room;
+use headers::mark::Mark;
+use once::read_once;
+use tell::tell;
+use walker::walk::MOST_MARKS;
+
+// A mark that is not written.
+const NO_MARK: Mark = Mark {
+    node: 0,
+    kind: 0,
+    offset: 0,
+    length: 0,
+};
+
+/// Loads a graph file and a plan on a new tap over a listing store, and reads a packet. Answers the
+/// number of the ending, with what was read laid out at the front of the area and the bytes behind it
+/// as they were; or a refusal by 1 to 11 as its number with its places above, and then the area stays.
+/// An area has room for 32 marks from 198 bytes on.
+#[unsafe(no_mangle)]
+pub extern "C" fn tap_read(graph: &[u8], plan: &[u8], packet: &[u8], area: &mut [u8]) -> u64
+    ensures answer { result ≡ answer_of (call graph.now plan.now packet.now (room (length area.old))) }
+    ensures area { area.new ≡ area_after (call graph.now plan.now packet.now (room (length area.old))) (trace graph.now plan.now packet.now).marks area.old }
+    ensures called { Called graph.now plan.now packet.now area.old result area.new }
+    ensures only { (other : ℕ) (after : List ℕ) → Called graph.now plan.now packet.now area.old other after → (other ≡ result) × (after ≡ area.new) }
+{
+    let mut marks = [NO_MARK; MOST_MARKS];
+    let answer = read_once(graph, plan, packet, &mut marks[..room(area.len())]);
+    tell(answer, &marks, area)
+}
