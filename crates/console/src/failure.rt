@@ -1,4 +1,10 @@
 // What can come in the way of a command.
+ghost use Rattle.std.specs.Prelude.{◌≡◌};
+ghost use Rattle.graph_reader.specs.Faults.{of_read};
+ghost use Rattle.graph_writer.specs.Faults.{of_write};
+ghost use Rattle.stores.specs.Faults.{of_store};
+ghost use Rattle.console.specs.declared.failure.Failure.TheVariants.{Refused, Capture};
+
 use captures::fault::CaptureFault;
 use graph_reader::fault::ReadFault;
 use graph_writer::fault::WriteFault;
@@ -48,6 +54,8 @@ impl fmt::Display for Failure<'_> {
 }
 
 impl<'a> From<Refusal> for Failure<'a> {
+    ghost from_gives = { λ refusal failure. failure ≡ Refused refusal };
+
     fn from(refusal: Refusal) -> Failure<'a> {
         Failure::Refused(refusal)
     }
@@ -57,24 +65,32 @@ impl<'a> From<Refusal> for Failure<'a> {
 // on their crates.
 // One impl for each fault: one for all that become refusals would meet those of std's errors below.
 impl<'a> From<ReadFault> for Failure<'a> {
+    ghost from_gives = { λ fault failure. failure ≡ Refused (of_read fault) };
+
     fn from(fault: ReadFault) -> Failure<'a> {
         Failure::Refused(Refusal::from(fault))
     }
 }
 
 impl<'a> From<WriteFault> for Failure<'a> {
+    ghost from_gives = { λ fault failure. failure ≡ Refused (of_write fault) };
+
     fn from(fault: WriteFault) -> Failure<'a> {
         Failure::Refused(Refusal::from(fault))
     }
 }
 
 impl<'a> From<StoreFault> for Failure<'a> {
+    ghost from_gives = { λ fault failure. failure ≡ Refused (of_store fault) };
+
     fn from(fault: StoreFault) -> Failure<'a> {
         Failure::Refused(Refusal::from(fault))
     }
 }
 
 impl<'a> From<CaptureFault> for Failure<'a> {
+    ghost from_gives = { λ fault failure. failure ≡ Capture fault };
+
     fn from(fault: CaptureFault) -> Failure<'a> {
         Failure::Capture(fault)
     }

@@ -9,3 +9,5 @@ mod graph_files;
 pub mod sample;
 #[cfg(test)]
 mod searches;
+#[cfg(test)]
+mod words;
