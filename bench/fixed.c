@@ -1,6 +1,8 @@
 /* A parser written by hand for two graphs, to measure a tap against: the four-header graph (Ethernet, a VLAN tag, IPv4,
    TCP) and the campus graph. It has no tables and cannot be told another graph. It marks the same headers as the plain
    walk of docs/WALK.md, makes the same checks, and ends in the same ways, which bench/run compares.
+   There is a function for each node of a graph, as one writes such a parser: IPv4 and IPv6 in a tunnel are nodes of
+   their own, behind which no GRE and no options come, and so stand beside those outside.
 
        fixed GRAPH PACKETS            times reads of the packets, over and over; GRAPH is four or campus
        fixed --counted GRAPH PACKETS  the same, and counts headers, bytes and endings as a tap does

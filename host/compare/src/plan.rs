@@ -99,25 +99,16 @@ mod tests {
     #[test]
     fn each_example_of_a_refusal_is_refused() {
         assert_eq!(refused(&[0; 15]), Refusal::at(7, 4, 0));
-        assert_eq!(
-            refused(&[0, 0, 0, 0, 4, 0, 0, 0, 0, 0, 0, 0, 0, 0, 0, 0]),
-            Refusal::at(7, 1, 0)
-        );
-        assert_eq!(
-            refused(&[1, 1, 0, 1, 0, 0, 0, 0, 0, 0, 0, 0, 0, 0, 0, 0]),
-            Refusal::at(7, 0, 0)
-        );
-        assert_eq!(
-            refused(&[1, 3, 0, 0, 0, 0, 0, 0, 0, 0, 0, 0, 0, 0, 0, 0]),
-            Refusal::at(8, 0, 0)
-        );
-        assert_eq!(
-            refused(&[1, 200, 0, 0, 0, 0, 0, 0, 0, 0, 0, 0, 0, 0, 0, 0]),
-            Refusal::at(8, 0, 0)
-        );
-        assert_eq!(
-            refused(&[1, 2, 0, 0, 0, 0, 0, 0, 0, 0, 0, 0, 0, 0, 0, 0]),
-            Refusal::at(8, 0, 0)
-        );
+        // The chains of nodes 0 and 1, and the refusal.
+        for (first, second, refusal) in [
+            ([0; 4], [4, 0, 0, 0], Refusal::at(7, 1, 0)),
+            ([1, 1, 0, 1], [0; 4], Refusal::at(7, 0, 0)),
+            ([1, 3, 0, 0], [0; 4], Refusal::at(8, 0, 0)),
+            ([1, 200, 0, 0], [0; 4], Refusal::at(8, 0, 0)),
+            ([1, 2, 0, 0], [0; 4], Refusal::at(8, 0, 0)),
+        ] {
+            let plan = [first, second, [0; 4], [0; 4]].concat();
+            assert_eq!(refused(&plan), refusal);
+        }
     }
 }
