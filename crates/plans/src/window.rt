@@ -1,6 +1,7 @@
 // How far a node and its chain reach into a packet.
 ghost use Rattle.std.specs.Prelude.{◌≡◌, ◌+◌, ◌*◌, ◌≤◌, length};
 ghost use Rattle.graphs.specs.View.{node_view, graph_view};
+ghost use Rattle.walks.specs.Walk.{reads};
 ghost use Rattle.walks.specs.Plans.{fixed_size, reach, span, window};
 ghost use Rattle.plans.specs.Chains.{nodes_of};
 
@@ -39,14 +40,26 @@ fn span(node: &Node) -> u16
     fixed_size(node.length).max(reach(node.lookup()))
 }
 
-// The length of a fixed header; 0 for another.
-fn fixed_size(length: Length) -> u16
+/// The length of a fixed header; 0 for another.
+pub fn fixed_size(length: Length) -> u16
     ensures is { result ≡ fixed_size length }
     ensures small { result ≤ 255 }
 {
     match length {
         Length::Fixed(size) => u16::from(size),
         Length::Counted { .. } => 0,
+    }
+}
+
+/// The fewest bytes from the node's start on that hold every byte which a step at the node reads: those
+/// at its lookup places, and the one that a counted length is told by.
+pub fn needs(node: &Node) -> u16
+    ensures { result ≡ reach (reads (node_view node.now)) }
+{
+    let lookups = reach(node.lookup());
+    match node.length {
+        Length::Fixed(_) => lookups,
+        Length::Counted { place, .. } => lookups.max(u16::from(place) + 1),
     }
 }
 

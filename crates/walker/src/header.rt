@@ -4,7 +4,7 @@ ghost use Rattle.refusals.specs.Searching.{fault_of};
 ghost use Rattle.walks.specs.Bytes.{byte_at};
 ghost use Rattle.walks.specs.Walk.{measured, length_places};
 ghost use Rattle.walks.specs.Turning.{held};
-ghost use Rattle.walker.specs.Headers.{header_refusal, key_of};
+ghost use Rattle.walker.specs.Headers.{header_refusal, size_refusal, key_of};
 
 use graphs::graph::Length;
 use octets::read::byte_at;
@@ -87,6 +87,16 @@ impl<'a> HeaderAt<'a> {
         if !self.holds_all(length, places) {
             return Err(Ending::Cut);
         }
+        self.check_size(minimum, length)
+    }
+
+    /// The header's length, by its kind's minimum and its length rule. Refused as short if the header
+    /// is under the minimum, then as cut if it overruns the packet. Nothing is said of the bytes that
+    /// it is read by.
+    pub fn check_size(&self, minimum: u8, length: Length) -> Result<u32, Ending>
+        ensures refused { fault_of result ≡ size_refusal self.now.packet.now self.now.at minimum length }
+        ensures size { IfOk result (λ size. size ≡ measured length self.now.packet.now self.now.at) }
+    {
         let size = self.measure(length);
         if size < u32::from(minimum) {
             return Err(Ending::Short);
