@@ -13,18 +13,10 @@ mod once;
 mod tell;
 
 use area::room;
-use headers::mark::Mark;
 use once::read_once;
+use taps::tap::NO_MARK;
 use tell::tell;
 use walker::walk::MOST_MARKS;
-
-// A mark that is not written.
-const NO_MARK: Mark = Mark {
-    node: 0,
-    kind: 0,
-    offset: 0,
-    length: 0,
-};
 
 /// Loads a graph file and a plan on a new tap over a listing store, and reads a packet. Answers the
 /// number of the ending, with what was read laid out at the front of the area and the bytes behind it

@@ -2,6 +2,7 @@ pub mod Packing
 pub mod Sinking
 pub mod Cells
 pub mod Joining
+pub mod Looking
 pub mod Filling
 pub mod Heading
 pub mod Refused

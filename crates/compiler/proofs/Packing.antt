@@ -9,7 +9,7 @@ use Rattle.walks.specs.Bytes.{filled, spelled, spelled_in}
 use Rattle.walks.specs.Rows.{key_width, Cell, free}
 
 -- what is filled up to eight, by places
-pub eight : (xs : List ℕ)
+eight : (xs : List ℕ)
     → filled 0 key_width xs ≡ get_or xs 0 0 ∷ get_or xs 1 0 ∷ get_or xs 2 0 ∷ get_or xs 3 0 ∷ get_or xs 4 0 ∷ get_or xs 5 0 ∷ get_or xs 6 0 ∷ get_or xs 7 0 ∷ []
 eight [] = refl
 eight (a ∷ []) = refl
@@ -22,7 +22,7 @@ eight (a ∷ b ∷ c ∷ d ∷ e ∷ f ∷ g ∷ []) = refl
 eight (a ∷ b ∷ c ∷ d ∷ e ∷ f ∷ g ∷ h ∷ xs) = refl
 
 -- as a number
-pub eight_spelled : (a b c d e f g h : ℕ) → from_be_bytes w64 (a ∷ b ∷ c ∷ d ∷ e ∷ f ∷ g ∷ h ∷ []) ≡ spelled (a ∷ b ∷ c ∷ d ∷ e ∷ f ∷ g ∷ h ∷ [])
+eight_spelled : (a b c d e f g h : ℕ) → from_be_bytes w64 (a ∷ b ∷ c ∷ d ∷ e ∷ f ∷ g ∷ h ∷ []) ≡ spelled (a ∷ b ∷ c ∷ d ∷ e ∷ f ∷ g ∷ h ∷ [])
 eight_spelled a b c d e f g h = omega arith
 
 -- as `from_fn` makes them of a part of each cell

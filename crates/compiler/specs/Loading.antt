@@ -61,7 +61,7 @@ pub record Loaded (minimum : Kind → ℕ) (file plan : List ℕ) (before after 
   pub read : reading minimum file ≡ Ok graph
   pub lawful : Lawful graph (chain_in plan)
   pub rows : after ≡ storing before (store_rows graph (chain_in plan))
-  pub stands : Stands program graph (chain_in plan)
+  pub stands : Stands minimum program graph (chain_in plan)
 
 -- what is known once nothing is refused
 pub record Loadable (minimum : Kind → ℕ) (file plan : List ℕ) (capacity : ℕ) (c : Checked) : Type 0 where

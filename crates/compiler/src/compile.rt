@@ -5,7 +5,7 @@ ghost use Rattle.refusals.specs.Least.{Answers};
 ghost use Rattle.headers.specs.Table.{minimum_in, standard_table};
 ghost use Rattle.graphs.specs.View.{graph_view};
 ghost use Rattle.compiler.specs.Filled.{all_rows};
-ghost use Rattle.walks.specs.Plans.{store_count};
+ghost use Rattle.walks.specs.Plans.{Lawful, store_count};
 ghost use Rattle.plans.specs.Chains.{chain_of};
 ghost use Rattle.compiler.specs.Faults.{of_load};
 ghost use Rattle.compiler.specs.Programs.{most_rows, Stands};
@@ -13,7 +13,7 @@ ghost use Rattle.compiler.specs.Loading.{roomy, LoadApplies, load_fault, storing
 
 use crate::checked::Checked;
 use crate::fault::LoadFault;
-use crate::program::{Program, ROWS, heads_of};
+use crate::program::{Head, Program, ROWS, heads_of};
 use crate::sink::Sink;
 use graph_reader::read::read_graph_by;
 use headers::table::KindTable;
@@ -53,7 +53,7 @@ pub fn compile_by<S: Store>(
     ensures kept { OnErr result ((store.new ≡ store.old) × (program.new ≡ program.old)) }
 {
     let checked = check(table, file, plan, store.capacity())?;
-    load(&checked, store, program)?;
+    load(table, &checked, store, program)?;
     Ok(())
 }
 
@@ -79,18 +79,25 @@ fn check_room(rows: u16, capacity: u16) -> Result<(), LoadFault>
 }
 
 // Fills the wiped store and writes the program. The store has room.
-fn load<S: Store>(checked: &Checked, store: &mut S, program: &mut Program) -> Result<(), StoreFault>
+fn load<S: Store>(
+    table: &KindTable,
+    checked: &Checked,
+    store: &mut S,
+    program: &mut Program,
+) -> Result<(), StoreFault>
     requires few { store_count (graph_view checked.now.graph) (chain_of checked.now.chains) ≤ most_rows }
     requires room { store_count (graph_view checked.now.graph) (chain_of checked.now.chains) ≤ (S.Store.meaning store.old).capacity }
+    requires lawful { Lawful (graph_view checked.now.graph) (chain_of checked.now.chains) }
     requires past { (n : ℕ) → length (graph_view checked.now.graph) ≤ n → chain_of checked.now.chains n ≡ [] }
     ensures answered { result ≡ Ok tt }
     ensures rows { S.Store.meaning store.new ≡ storing (S.Store.meaning store.old) (all_rows checked.now) }
-    ensures stands { Stands program.new (graph_view checked.now.graph) (chain_of checked.now.chains) }
+    ensures stands { Stands (minimum_in table.now) program.new (graph_view checked.now.graph) (chain_of checked.now.chains) }
 {
     let actions = &mut program.actions;
     let mut sink = Sink { store, actions };
     sink.empty();
     sink.fill(checked)?;
-    program.heads = heads_of(checked);
+    program.blank = Head::blank(table);
+    program.heads = heads_of(table, checked, program.blank);
     Ok(())
 }

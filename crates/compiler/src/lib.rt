@@ -10,6 +10,7 @@ pub mod fault;
 pub mod few;
 mod fill;
 mod items;
+mod lookups;
 mod pieces;
 pub mod program;
 mod sink;

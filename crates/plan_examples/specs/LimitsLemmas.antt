@@ -10,7 +10,8 @@ use Rattle.stores.specs.Fits.{fits}
 use Rattle.stores.specs.Meaning.{Meaning, admits, appended}
 use Rattle.stores.specs.Listings.{length_listed}
 use Rattle.stores.specs.Pairs.{admits_same}
-use Rattle.plan_examples.specs.Limits.{of_listing, limited}
+use Rattle.slices.specs.Piled.{of_listing}
+use Rattle.plan_examples.specs.Limits.{limited}
 
 pub listing_length : (s : Tabled Rows 512) → length (of_listing s).rows ≡ s.held
 listing_length s = length_listed s.table.rows s.held (omega arith)

@@ -1,6 +1,7 @@
 // A store of any capacity up to 512 rows, made for examples.
 ghost use Rattle.std.specs.Prelude.{◌≡◌, ◌≤◌, min};
-ghost use Rattle.plan_examples.specs.Limits.{limited, of_listing};
+ghost use Rattle.slices.specs.Piled.{of_listing};
+ghost use Rattle.plan_examples.specs.Limits.{limited};
 ghost use Rattle.stores.specs.Meaning.{fresh};
 ghost use Rattle.std.proofs.Common.{arith};
 ghost use Rattle.plan_examples.specs.LimitsLemmas.{listing_length};

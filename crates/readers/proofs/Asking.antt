@@ -1,6 +1,7 @@
 -- What a turn asks, and the outcome of one that asks none.
-use Rattle.std.proofs.Common.{◌≡◌, ℕ, ◌+◌, ◌<◌, ◌≤◌, true, false, List, [], ◌∷◌, length, Some, None, Option, min, ◌%◌, sym, refl, ap, ◌∙◌, subst, arith}
-use Rattle.std.proofs.lemmas.Bool.{leb-true, leb-false, both_ways}
+use Rattle.std.proofs.Common.{◌≡◌, ℕ, suc, ◌+◌, ◌<◌, ◌≤◌, true, false, ◌&&◌, List, [], ◌∷◌, length, Some, None, Option, inl, inr, min, max, ◌%◌, sym, refl, ap, ap₂, ◌∙◌, subst, arith}
+use Rattle.std.specs.Prelude.{nat_le, nat_lt}
+use Rattle.std.proofs.lemmas.Bool.{leb-true, leb-false, both_ways, cases_lt, lt-ltb, le-ltb, le-leb, lt-leb}
 use Rattle.headers.specs.declared.kinds.Kind.{Kind}
 use Rattle.graphs.specs.View.{NodeView, node_at}
 use Rattle.graphs.specs.declared.graph.Length.{Length}
@@ -8,21 +9,37 @@ use Rattle.stores.specs.declared.question.Question.{Question}
 use Rattle.walks.specs.declared.outcome.Ending.{Ending}
 use Rattle.walks.specs.declared.outcome.Outcome.{Outcome}
 use Rattle.walks.specs.Outcomes.{outcome}
-use Rattle.walks.specs.Walk.{key_at}
+use Rattle.walks.specs.Walk.{reads, key_at}
 use Rattle.walks.specs.Bytes.{spelled_in}
 use Rattle.walks.specs.Rows.{Plan, question}
-use Rattle.walks.specs.Plans.{Lawful, window}
+use Rattle.walks.specs.Plans.{Keeps, Lawful, reach, window}
+use Rattle.walks.specs.Turning.{held}
 use Rattle.walks.specs.Turns.{keys_at, Singly, Asks, chained, singly}
-use Rattle.walker.specs.Headers.{header_refusal}
+use Rattle.walker.specs.Headers.{refusal_where, header_refusal}
 use Rattle.walker.proofs.Stepping.{node_fails, node_passes}
 use Rattle.compiler.specs.declared.program.Program.{Program}
-use Rattle.compiler.specs.Programs.{Stands}
-use Rattle.readers.specs.Headers.{keys_by}
+use Rattle.compiler.specs.Programs.{looked_up, Stands}
+use Rattle.readers.specs.Headers.{bytes_at}
 use Rattle.readers.specs.Asking.{wide, EndsAs}
 use Rattle.readers.proofs.Stating.{state_wraps}
-use Rattle.readers.proofs.Standing.{near_more, asked_near, same_keys}
+use Rattle.readers.proofs.Standing.{chain_within}
+use Rattle.readers.proofs.Looking.{keys_looked}
 
-module _ (minimum : Kind → ℕ) (g : List NodeView) (chain : Plan) (program : Program) (stands : Stands program g chain) (p : List ℕ) (n at : ℕ)
+-- places are held where the packet has the bytes that reach over all of them
+held_within : (p : List ℕ) (at : ℕ) (is : List ℕ) → at ≤ length p → held p at is ≡ nat_le (at + reach is) (length p)
+held_within p at [] h = sym (le-leb (at + 0) (length p) (omega arith))
+held_within p at (i ∷ is) h = ap (λ b. nat_lt (at + i) (length p) && b) (held_within p at is h) ∙ both (at + i) (at + reach is) (length p) (at + max (suc i) (reach is)) (omega arith)
+  where
+    both : (a b n m : ℕ) → m ≡ max (suc a) b → (nat_lt a n && nat_le b n) ≡ nat_le m n
+    both a b n m e = elim (cases_lt a n) [
+      | inl x ↦ elim (cases_lt n b) [
+        | inl y ↦ ap₂ (λ s t. s && t) (lt-ltb a n x) (lt-leb b n y) ∙ sym (lt-leb m n (omega arith))
+        | inr y ↦ ap₂ (λ s t. s && t) (lt-ltb a n x) (le-leb b n y) ∙ sym (le-leb m n (omega arith))
+      ]
+      | inr x ↦ ap (λ s. s && nat_le b n) (le-ltb a n x) ∙ sym (lt-leb m n (omega arith))
+    ]
+
+module _ (minimum : Kind → ℕ) (g : List NodeView) (chain : Plan) (program : Program) (stands : Stands minimum program g chain) (p : List ℕ) (n at : ℕ)
     (w : ℕ) (size : w ≡ window g n (chain n)) where
   -- the window, where there is a chain
   window_is : (c : ℕ) (cs : List ℕ) → c ∷ cs ≡ chain n → w ≡ window g n (c ∷ cs)
@@ -30,16 +47,17 @@ module _ (minimum : Kind → ℕ) (g : List NodeView) (chain : Plan) (program : 
 
   -- with a chain and the window's bytes left
   module _ (law : Lawful g chain) (few : length p ≤ 65535) (q : Question) where
-    pub asks_chain : (cs : List ℕ) → cs ≡ chain n → wide cs at w (length p) ≡ true → q ≡ question ((32 + n) % 256) (keys_by program p (n ∷ cs) at)
+    pub asks_chain : (lookups cs : List ℕ) → lookups ≡ looked_up g n (chain n) → cs ≡ chain n → wide cs at w (length p) ≡ true → q ≡ question ((32 + n) % 256) (bytes_at p at lookups)
         → Asks minimum g chain p n at cs q
-    asks_chain [] behind t is = absurd (both_ways false refl t)
-    asks_chain (c ∷ cs) behind t is =
+    asks_chain lookups [] all behind t is = absurd (both_ways false refl t)
+    asks_chain lookups (c ∷ cs) all behind t is =
         let h : at + window g n (c ∷ cs) ≤ length p = omega (arith, leb-true (at + w) (length p) t, window_is c cs behind) in
         let asks : Asks minimum g chain p n at (c ∷ cs) (question (32 + n) (keys_at g p n (c ∷ cs) at)) = chained (sym behind) h in
-        let near = near_more g p (length p) 65535 few (c ∷ cs) n at (asked_near g p program chain stands minimum law n at asks) in
+        let ok : Keeps g n (c ∷ cs) = subst (Keeps g n) (sym behind) (law n (chain_within g p minimum program chain stands n c cs (sym behind))) in
         let same : q ≡ question (32 + n) (keys_at g p n (c ∷ cs) at) =
-        is ∙ ap (λ s. let r : Question = record { state = s; key = spelled_in 8 (keys_by program p (n ∷ c ∷ cs) at) } in r) (state_wraps n)
-        ∙ ap (question (32 + n)) (same_keys g p program chain stands (c ∷ cs) n at near) in
+        is ∙ ap (λ s. let r : Question = record { state = s; key = spelled_in 8 (bytes_at p at lookups) } in r) (state_wraps n)
+        ∙ ap (λ xs. question (32 + n) (bytes_at p at xs)) (all ∙ ap (looked_up g n) (sym behind))
+        ∙ ap (question (32 + n)) (keys_looked p g (c ∷ cs) n at ok.fixed) in
         subst (Asks minimum g chain p n at (c ∷ cs)) (sym same) asks
 
   -- otherwise
@@ -52,22 +70,25 @@ module _ (minimum : Kind → ℕ) (g : List NodeView) (chain : Plan) (program : 
         go (d ∷ es) b t = omega (arith, leb-false (at + w) (length p) t, size, ap (window g n) e)
 
     -- the checks, by the node's head
-    module _ (len : Length) (places : List ℕ) (least : ℕ) (lengths : len ≡ (node_at g n).len) (named : places ≡ (node_at g n).places) (fewest : least ≡ minimum (node_at g n).kind) where
-      told : (o : Option Ending) → o ≡ header_refusal p at least len places → o ≡ header_refusal p at least (node_at g n).len places
-      told o e = e ∙ ap (λ l. header_refusal p at least l places) lengths
+    module _ (len : Length) (needs least : ℕ) (lengths : len ≡ (node_at g n).len) (needed : needs ≡ reach (reads (node_at g n))) (fewest : least ≡ minimum (node_at g n).kind) (near : at ≤ length p) where
+      abbrev told : Option Ending
+      told = refusal_where (nat_le (at + needs) (length p)) p at least len
 
-      pub ends_as : (e : Ending) → Some e ≡ header_refusal p at least len places → at ≤ 65535 → (o : Outcome) → o ≡ outcome e n (min at 65535) → EndsAs minimum g chain p n at o
+      told_is : told ≡ header_refusal p at least (node_at g n).len (node_at g n).places
+      told_is =
+          ap (λ l. refusal_where (nat_le (at + needs) (length p)) p at least l) lengths
+          ∙ ap (λ b. refusal_where b p at least (node_at g n).len) (ap (λ m. nat_le (at + m) (length p)) needed ∙ sym (held_within p at (reads (node_at g n)) near))
+
+      pub ends_as : (e : Ending) → Some e ≡ told → at ≤ 65535 → (o : Outcome) → o ≡ outcome e n (min at 65535) → EndsAs minimum g chain p n at o
       ends_as e s l o is = record {
         alone = is_alone;
         ending = e;
-        refused = node_fails minimum g p n at (node_at g n) refl places named least fewest e (told (Some e) s);
+        refused = node_fails minimum g p n at (node_at g n) refl (node_at g n).places refl least fewest e (s ∙ told_is);
         is = is ∙ ap (outcome e n) (omega arith);
       }
 
-      pub asks_alone : None ≡ header_refusal p at least len places → length p ≤ 65535 → (q : Question) → (ns : List ℕ) → ns ≡ [] → q ≡ question n (keys_by program p (n ∷ ns) at)
-          → Asks minimum g chain p n at ns q
-      asks_alone s few q ns none is =
-          let header = node_passes minimum g p n at (node_at g n) refl places named least fewest (told None s) in
-          let keys : keys_by program p (n ∷ []) at ≡ key_at g p n at = same_keys g p program chain stands [] n at (omega (arith, header.within)) in
-          let same : q ≡ question n (key_at g p n at) = is ∙ ap (λ ms. question n (keys_by program p (n ∷ ms) at)) none ∙ ap (question n) keys in
+      pub asks_alone : None ≡ told → (q : Question) → (lookups ns : List ℕ) → lookups ≡ (node_at g n).places → ns ≡ [] → q ≡ question n (bytes_at p at lookups) → Asks minimum g chain p n at ns q
+      asks_alone s q lookups ns own none is =
+          let header = node_passes minimum g p n at (node_at g n) refl (node_at g n).places refl least fewest (s ∙ told_is) in
+          let same : q ≡ question n (key_at g p n at) = is ∙ ap (λ ps. question n (bytes_at p at ps)) own in
           subst (λ ms. Asks minimum g chain p n at ms q) (sym none) (subst (Asks minimum g chain p n at []) (sym same) (singly is_alone header))

@@ -1,7 +1,6 @@
 -- Items written over the front of a list, one more at a time.
-use Rattle.std.proofs.Common.{◌≡◌, ℕ, zero, suc, ◌+◌, ◌<◌, ◌≤◌, List, [], ◌∷◌, ◌++◌, length, set, drop, replicate, refl, ap, ◌∙◌, arith}
+use Rattle.std.proofs.Common.{◌≡◌, ℕ, suc, ◌+◌, ◌<◌, ◌≤◌, List, [], ◌∷◌, ◌++◌, length, set, drop, refl, ap, ◌∙◌, arith}
 use Rattle.std.proofs.lemmas.List.{length_push}
-use Rattle.walks.specs.Bytes.{filled}
 use Rattle.readers.specs.Fronts.{over, Written}
 
 module _ {X : Type 0} where
@@ -26,12 +25,6 @@ module _ {X : Type 0} where
   over_whole [] before h = refl
   over_whole (w ∷ ws) [] h = absurd (omega arith)
   over_whole (w ∷ ws) (b ∷ before) h = ap (λ ys. w ∷ ys) (over_whole ws before (omega arith))
-
-  pub over_filled : (z : X) (n : ℕ) (ws : List X) → over ws (replicate n z) ≡ filled z n ws
-  over_filled z zero [] = refl
-  over_filled z zero (w ∷ ws) = refl
-  over_filled z (suc n) [] = ap (λ ys. z ∷ ys) (over_filled z n [])
-  over_filled z (suc n) (w ∷ ws) = ap (λ ys. w ∷ ys) (over_filled z n ws)
 
   module _ (before now : List X) (count : ℕ) (item : X) (ws : List X) (was : Written before now count ws) where
     pub written_more : count < length now → Written before (set now count item) (count + 1) (ws ++ item ∷ [])

@@ -124,7 +124,7 @@ module _ (minimum : Kind → ℕ) (g : List NodeView) (chain : Plan) (p : List �
       }
 
       -- it asks, and the answer passes headers
-      module _ (program : Program) (stands : Stands program g chain) (law : Lawful g chain) (short : length p ≤ 9600)
+      module _ (program : Program) (stands : Stands minimum program g chain) (law : Lawful g chain) (short : length p ≤ 9600)
           (cs : List ℕ) (q : Question) (asks : Asks minimum g chain p n at cs q) (a : Action) (answers : a ≡ settled (put q)) (new : List Mark) (r : Passed)
           (puts : (before ws : List Mark) → Written before now count ws → Written before new r.marks (ws ++ marks_by program p (n ∷ take a.beyond cs) at))
           (leads : r.step ≡ step_at (last_of (marks_by program p (n ∷ take a.beyond cs) at)) a.target (min (end_of (last_of (marks_by program p (n ∷ take a.beyond cs) at))) 65535)) where
@@ -135,10 +135,10 @@ module _ (minimum : Kind → ℕ) (g : List NodeView) (chain : Plan) (p : List �
         s = r.step
 
         near : Near g p (length p) n cs at
-        near = asked_near g p program chain stands minimum law n at asks
+        near = asked_near g p minimum program chain stands law n at asks
 
         marks_are : marks_by program p (n ∷ take a.beyond cs) at ≡ passed g p a.beyond n cs at
-        marks_are = same_marks g p program chain stands a.beyond cs n at (near_more g p (length p) 65535 (omega (arith, short)) cs n at near)
+        marks_are = same_marks g p minimum program chain stands a.beyond cs n at (near_more g p (length p) 65535 (omega (arith, short)) cs n at near)
 
         last_is : last ≡ mark_at g p (last_node a.beyond n cs) (last_at g p a.beyond n cs at)
         last_is = ap last_of marks_are ∙ last_passed g p a.beyond cs n at

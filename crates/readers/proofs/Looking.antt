@@ -1,39 +1,35 @@
--- The lookup bytes of headers, put one behind the other.
-use Rattle.std.proofs.Common.{◌≡◌, ℕ, List, [], ◌∷◌, ◌++◌, replicate, refl, sym, ap, ◌∙◌, arith}
-use Rattle.std.specs.List.{flat_map}
-use Rattle.std.specs.Int.{w64, from_be_bytes}
-use Rattle.std.proofs.lemmas.List.{append-nil}
-use Rattle.headers.specs.declared.mark.Mark.{Mark}
-use Rattle.walks.specs.Bytes.{filled, spelled, spelled_in}
-use Rattle.compiler.specs.declared.program.Program.{Program}
-use Rattle.compiler.proofs.Packing.{eight, eight_spelled}
-use Rattle.readers.specs.Fronts.{Written}
-use Rattle.readers.specs.Headers.{mark_by, lookups_by, end_of, marks_by, keys_by}
-use Rattle.readers.proofs.Fronting.{over_filled}
+-- Lookup bytes, one behind the other: those of a chain lie where a program says.
+use Rattle.std.proofs.Common.{◌≡◌, ℕ, ◌+◌, ◌<◌, List, [], ◌∷◌, ◌++◌, map, length, get_or, take, refl, sym, ap, ap₂, ◌∙◌, subst, arith}
+use Rattle.std.proofs.lemmas.List.{map-append, map_more}
+use Rattle.graphs.specs.View.{NodeView, node_at}
+use Rattle.walks.specs.Bytes.{byte_at}
+use Rattle.walks.specs.Walk.{past, key_at}
+use Rattle.walks.specs.Plans.{AllFixed, fixed_size}
+use Rattle.walks.specs.Turns.{keys_at}
+use Rattle.compiler.specs.Programs.{looked_up}
+use Rattle.readers.specs.declared.key.Key.{Key}
+use Rattle.readers.specs.Headers.{bytes_at}
+use Rattle.readers.specs.Keys.{Spells}
+use Rattle.readers.proofs.Standing.{fixed_is}
 
--- A key that is being filled: the lookup bytes so far, and those of the headers that are left, are those of all
-pub record Filling (f : Mark → List ℕ) (bytes : List ℕ) (count : ℕ) (left : List Mark) (whole : List ℕ) : Type 0 where
-  pub ks : List ℕ
-  pub written : Written (replicate 8 0) bytes count ks
-  pub rest : ks ++ flat_map f left ≡ whole
+-- one place more is looked at
+pub looked_more : (f : ℕ → ℕ) (places : List ℕ) (i : ℕ) → i < length places → (byte : ℕ) → byte ≡ f (get_or places i 0) → (now new : Key)
+    → Spells now (map f (take i places)) → ((bytes : List ℕ) → Spells now bytes → Spells new (bytes ++ byte ∷ [])) → Spells new (map f (take (i + 1) places))
+looked_more f places i h byte is now new so_far push =
+    let byte_more : map f (take i places) ++ byte ∷ [] ≡ map f (take (i + 1) places) = ap (λ b. map f (take i places) ++ b ∷ []) is ∙ sym (map_more f places i 0 h) in
+    subst (Spells new) byte_more (push (map f (take i places)) so_far)
 
-module _ (f : Mark → List ℕ) (bytes : List ℕ) (count : ℕ) (left : List Mark) (whole : List ℕ) where
-  -- none is left
-  pub filling_done : Filling f bytes count left whole → left ≡ [] → bytes ≡ filled 0 8 whole
-  filling_done w e =
-      w.written.stand ∙ over_filled 0 8 w.ks ∙ ap (filled 0 8) (sym (append-nil w.ks) ∙ ap (λ ms. w.ks ++ flat_map f ms) (sym e) ∙ w.rest)
+module _ (p : List ℕ) where
+  -- so many bytes further on
+  further : (at n : ℕ) (xs : List ℕ) → bytes_at p at (map (λ i. n + i) xs) ≡ bytes_at p (at + n) xs
+  further at n [] = refl
+  further at n (x ∷ xs) = let e : at + (n + x) ≡ (at + n) + x = omega arith in ap₂ (λ i ys. byte_at p i ∷ ys) e (further at n xs)
 
--- only the first header is looked at
-pub filling_first : (program : Program) (p : List ℕ) (n at : ℕ) (ns : List ℕ) (first : Mark) → first ≡ mark_by program p n at → (left : List Mark) → left ≡ marks_by program p ns (end_of first)
-    → (bytes : List ℕ) (count : ℕ) → ((before ws : List ℕ) → Written before (replicate 8 0) 0 ws → Written before bytes count (ws ++ lookups_by program p first))
-    → Filling (lookups_by program p) bytes count left (keys_by program p (n ∷ ns) at)
-filling_first program p n at ns first is left others bytes count put =
-    let f = lookups_by program p in record {
-      ks = f first;
-      written = put (replicate 8 0) [] (record { stand = refl; many = omega arith });
-      rest = ap (λ ms. f first ++ flat_map f ms) others ∙ ap (λ m. f m ++ flat_map f (marks_by program p ns (end_of m))) is;
-    }
-
--- eight bytes as a number
-pub key_spelled : (xs : List ℕ) → from_be_bytes w64 (filled 0 8 xs) ≡ spelled_in 8 xs
-key_spelled xs = ap (from_be_bytes w64) (eight xs) ∙ eight_spelled _ _ _ _ _ _ _ _ ∙ sym (ap spelled (eight xs))
+  -- the lookup bytes of a node and the nodes behind it, which have fixed lengths
+  pub keys_looked : (g : List NodeView) (cs : List ℕ) (n at : ℕ) → AllFixed g n cs → bytes_at p at (looked_up g n cs) ≡ keys_at g p n cs at
+  keys_looked g [] n at f = refl
+  keys_looked g (c ∷ cs) n at f =
+      let size = fixed_size (node_at g n).len in
+      let rest = looked_up g c cs in
+      map-append (λ i. byte_at p (at + i)) (node_at g n).places (map (λ i. size + i) rest)
+      ∙ ap (λ ks. key_at g p n at ++ ks) (further at size rest ∙ ap (λ s. bytes_at p (at + s) rest) (sym (fixed_is g p n at f.0)) ∙ keys_looked g cs c (past g p n at) f.1)

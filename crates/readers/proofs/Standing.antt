@@ -1,6 +1,6 @@
 -- A program that stands for a graph and a plan: its headers, marked, and their lookup bytes are those of the graph.
-use Rattle.std.proofs.Common.{◌≡◌, ℕ, zero, suc, ◌+◌, ◌<◌, ◌≤◌, min, List, [], ◌∷◌, ◌++◌, map, length, take, inl, inr, sym, refl, ap, ap₂, ◌∙◌, subst, arith}
-use Rattle.std.proofs.lemmas.List.{append-nil, get_or_past}
+use Rattle.std.proofs.Common.{◌≡◌, ℕ, zero, suc, ◌+◌, ◌<◌, ◌≤◌, min, List, [], ◌∷◌, length, take, inl, inr, sym, refl, ap, ap₂, ◌∙◌, subst, arith}
+use Rattle.std.proofs.lemmas.List.{get_or_past}
 use Rattle.std.proofs.lemmas.Bool.{cases_lt}
 use Rattle.headers.specs.declared.kinds.Kind.{Kind}
 use Rattle.headers.specs.declared.mark.Mark.{Mark}
@@ -8,16 +8,16 @@ use Rattle.headers.specs.Kinds.{kind_number}
 use Rattle.graphs.specs.View.{NodeView, node_at}
 use Rattle.stores.specs.declared.question.Question.{Question}
 use Rattle.plans.specs.Chains.{nodes_of}
-use Rattle.walks.specs.Bytes.{byte_at}
-use Rattle.walks.specs.Walk.{measured, size_at, past, mark_at, key_at}
+use Rattle.walks.specs.Walk.{measured, size_at, past, mark_at}
 use Rattle.walks.specs.Rows.{Plan}
 use Rattle.walks.specs.Plans.{IsFixed, AllFixed, Keeps, Lawful, fixed_size, window}
-use Rattle.walks.specs.Turns.{keys_at, passed, last_at, last_node, Asks, chained, singly}
+use Rattle.walks.specs.Turns.{passed, last_at, last_node, Asks, chained, singly}
 use Rattle.walker.specs.Steps.{marked}
+use Rattle.compiler.specs.declared.program.Head.{Head}
 use Rattle.compiler.specs.declared.program.Program.{Program}
 use Rattle.compiler.specs.Held.{held}
-use Rattle.compiler.specs.Programs.{no_head, head_at, bare, Stands}
-use Rattle.readers.specs.Headers.{node_by, mark_by, lookups_by, end_of, marks_by, keys_by}
+use Rattle.compiler.specs.Programs.{head_at, bare, HeadOf, Stands}
+use Rattle.readers.specs.Headers.{node_by, mark_by, end_of, marks_by}
 use Rattle.readers.specs.Asking.{last_of}
 
 module _ (g : List NodeView) (p : List ℕ) where
@@ -30,7 +30,7 @@ module _ (g : List NodeView) (p : List ℕ) where
   near_more a b l [] n at h = omega arith
   near_more a b l (c ∷ cs) n at h = (omega (arith, h.0), near_more a b l cs c (past g p n at) h.1)
 
-  fixed_is : (n at : ℕ) → IsFixed (node_at g n).len → size_at g p n at ≡ fixed_size (node_at g n).len
+  pub fixed_is : (n at : ℕ) → IsFixed (node_at g n).len → size_at g p n at ≡ fixed_size (node_at g n).len
   fixed_is n at f = rw f.1
 
   -- so do those of a chain, where the window's bytes are left
@@ -58,7 +58,11 @@ module _ (g : List NodeView) (p : List ℕ) where
   last_passed (suc k) [] n at = refl
   last_passed (suc k) (c ∷ cs) n at = last_behind (mark_at g p n at) k cs c (past g p n at) ∙ last_passed k cs c (past g p n at)
 
-  module _ (program : Program) (chain : Plan) (stands : Stands program g chain) where
+  module _ (minimum : Kind → ℕ) (program : Program) (chain : Plan) (stands : Stands minimum program g chain) where
+    -- what the program has of node n
+    pub head_stands : (n : ℕ) (h : Head) → h ≡ head_at program n → HeadOf minimum g chain n h
+    head_stands n h e = subst (HeadOf minimum g chain n) (sym e) (stands.heads n)
+
     same_node : (n : ℕ) → node_by program n ≡ bare (node_at g n)
     same_node n = (stands.heads n).node
 
@@ -68,25 +72,22 @@ module _ (g : List NodeView) (p : List ℕ) where
     pub same_length : (n : ℕ) → (node_by program n).len ≡ (node_at g n).len
     same_length n = ap (λ (v : NodeView). v.len) (same_node n)
 
-    pub same_places : (n : ℕ) → (node_by program n).places ≡ (node_at g n).places
-    same_places n = ap (λ (v : NodeView). v.places) (same_node n)
-
     -- a node with a chain is one of the graph
     pub chain_within : (n c : ℕ) (cs : List ℕ) → chain n ≡ c ∷ cs → n < length g
     chain_within n c cs e = elim (cases_lt n (length g)) [
       | inl h ↦ h
       | inr h ↦
-          let blank : head_at program n ≡ no_head = get_or_past (held program.heads) n no_head (omega (arith, stands.count)) in
-          let none : [] ≡ c ∷ cs = sym (ap (λ h. nodes_of h.chain) blank) ∙ (stands.heads n).behind ∙ e in
+          let blank : head_at program n ≡ program.blank = get_or_past (held program.heads) n program.blank (omega (arith, stands.count)) in
+          let none : [] ≡ c ∷ cs = sym (ap (λ h. nodes_of h.chain) blank ∙ stands.blank.behind) ∙ (stands.heads n).behind ∙ e in
           absurd (let z : ◌≡◌ {A = ℕ} 0 1 = cc in omega arith)
     ]
 
     -- the headers that a question is over lie in the packet
-    pub asked_near : (minimum : Kind → ℕ) → Lawful g chain → (n at : ℕ) {cs : List ℕ} {q : Question} → Asks minimum g chain p n at cs q → Near (length p) n cs at
-    asked_near minimum law n at (chained {c} {cs} e w) =
+    pub asked_near : Lawful g chain → (n at : ℕ) {cs : List ℕ} {q : Question} → Asks minimum g chain p n at cs q → Near (length p) n cs at
+    asked_near law n at (chained {c} {cs} e w) =
         let ok : Keeps g n (c ∷ cs) = subst (Keeps g n) e (law n (chain_within n c cs e)) in
         near_window (length p) (c ∷ cs) n at ok.fixed w
-    asked_near minimum law n at (singly s h) = h.within
+    asked_near law n at (singly s h) = h.within
 
     -- a header that ends within 16 bits
     same_mark : (n at : ℕ) → past g p n at ≤ 65535 → mark_by program p n at ≡ mark_at g p n at
@@ -95,9 +96,6 @@ module _ (g : List NodeView) (p : List ℕ) where
         let b : min (size_at g p n at) 65535 ≡ size_at g p n at = omega arith in
         ap₂ (λ k l. marked n k at (measured l p at)) (same_kind n) (same_length n)
         ∙ ap₂ (λ o l. record { node = n; kind = kind_number (node_at g n).kind; offset = o; length = l }) a b
-
-    same_lookups : (n at : ℕ) → past g p n at ≤ 65535 → lookups_by program p (mark_by program p n at) ≡ key_at g p n at
-    same_lookups n at h = ap (lookups_by program p) (same_mark n at h) ∙ ap (map (λ i. byte_at p (at + i))) (same_places n)
 
     same_end : (n at : ℕ) → past g p n at ≤ 65535 → end_of (mark_by program p n at) ≡ past g p n at
     same_end n at h = ap end_of (same_mark n at h)
@@ -110,10 +108,3 @@ module _ (g : List NodeView) (p : List ℕ) where
     same_marks (suc k) (c ∷ cs) n at h =
         ap₂ (λ m o. m ∷ marks_by program p (c ∷ take k cs) o) (same_mark n at h.0) (same_end n at h.0)
         ∙ ap (λ ms. mark_at g p n at ∷ ms) (same_marks k cs c (past g p n at) h.1)
-
-    -- and their lookup bytes are the graph's
-    pub same_keys : (cs : List ℕ) (n at : ℕ) → Near 65535 n cs at → keys_by program p (n ∷ cs) at ≡ keys_at g p n cs at
-    same_keys [] n at h = append-nil (lookups_by program p (mark_by program p n at)) ∙ same_lookups n at h
-    same_keys (c ∷ cs) n at h =
-        ap₂ (λ ks o. ks ++ keys_by program p (c ∷ cs) o) (same_lookups n at h.0) (same_end n at h.0)
-        ∙ ap (λ ks. key_at g p n at ++ ks) (same_keys cs c (past g p n at) h.1)

@@ -2,10 +2,8 @@
 use Rattle.std.specs.Prelude.{◌≡◌, ℕ, ◌+◌, ◌≤◌, min, Bool, false, List, [], ◌∷◌, ◌++◌, length, Ok, Err, Option, Result, nat_le}
 use Rattle.headers.specs.declared.kinds.Kind.{Kind}
 use Rattle.headers.specs.declared.mark.Mark.{Mark}
-use Rattle.headers.specs.Table.{minimum_in}
 use Rattle.patterns.specs.declared.row.Target.{Target}
 use Rattle.graphs.specs.View.{NodeView}
-use Rattle.plans.specs.Chains.{nodes_of}
 use Rattle.walks.specs.declared.outcome.Ending.{Ending}
 use Rattle.walks.specs.declared.outcome.Outcome.{Outcome}
 use Rattle.walks.specs.Outcomes.{outcome}
@@ -34,17 +32,17 @@ module _ (minimum : Kind → ℕ) (g : List NodeView) (chain : Plan) (p : List �
     pub refused : Refused minimum g p n at ending
     pub is : o ≡ outcome ending n at
 
-  -- the question of a turn, over node n and the chain that is told with it; or the outcome of a turn that asks none
+  -- the question of a turn, over node n and the nodes behind it that are told with it; or the outcome of a turn that asks none
   abbrev pub Asking : Result Asked Outcome → Type 0
-  Asking (Ok a) = Asks minimum g chain p n at (nodes_of a.chain) a.question
+  Asking (Ok a) = Asks minimum g chain p n at a.behind.now a.question
   Asking (Err o) = EndsAs o
 
 -- what a turn asks, for whatever graph and plan its program stands for, where the plan keeps the rules and the packet has at
 -- most 9,600 bytes
 abbrev pub TurnAsks : Turn → Result Asked Outcome → Type 0
 TurnAsks t r =
-    (g : List NodeView) (chain : Plan) → Stands t.program.now g chain → Lawful g chain → t.at ≤ length t.packet.now → length t.packet.now ≤ 9600
-    → Asking (minimum_in t.table.now) g chain t.packet.now t.node t.at r
+    (minimum : Kind → ℕ) (g : List NodeView) (chain : Plan) → Stands minimum t.program.now g chain → Lawful g chain → t.at ≤ length t.packet.now → length t.packet.now ≤ 9600
+    → Asking minimum g chain t.packet.now t.node t.at r
 
 -- the last of marks
 abbrev pub last_of : List Mark → Mark

@@ -1,6 +1,5 @@
 -- The headers of nodes one right behind the other, by what a program says of the nodes.
 use Rattle.std.specs.Prelude.{ℕ, ◌+◌, List, [], ◌∷◌, map}
-use Rattle.std.specs.List.{flat_map}
 use Rattle.headers.specs.declared.mark.Mark.{Mark}
 use Rattle.graphs.specs.View.{NodeView}
 use Rattle.walks.specs.Bytes.{byte_at}
@@ -20,9 +19,9 @@ module _ (program : Program) where
     abbrev pub mark_by : ℕ → ℕ → Mark
     mark_by n at = marked n (node_by n).kind at (measured (node_by n).len p at)
 
-    -- the lookup bytes of a marked header
-    abbrev pub lookups_by : Mark → List ℕ
-    lookups_by m = map (λ i. byte_at p (m.offset + i)) (node_by m.node).places
+-- the bytes at places from an offset on
+abbrev pub bytes_at : List ℕ → ℕ → List ℕ → List ℕ
+bytes_at p at places = map (λ i. byte_at p (at + i)) places
 
 -- the offset behind a marked header
 abbrev pub end_of : Mark → ℕ
@@ -32,10 +31,6 @@ end_of m = m.offset + m.length
 abbrev pub marks_by : Program → List ℕ → List ℕ → ℕ → List Mark
 marks_by program p [] at = []
 marks_by program p (n ∷ ns) at = mark_by program p n at ∷ marks_by program p ns (end_of (mark_by program p n at))
-
--- the lookup bytes of those headers, in order
-abbrev pub keys_by : Program → List ℕ → List ℕ → ℕ → List ℕ
-keys_by program p ns at = flat_map (lookups_by program p) (marks_by program p ns at)
 
 -- the marks that an iterator leaves
 abbrev pub marks_left : Behind → List Mark

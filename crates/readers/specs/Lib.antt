@@ -1,4 +1,5 @@
 pub mod Fronts
 pub mod Headers
+pub mod Keys
 pub mod Asking
 pub mod Reading

@@ -25,7 +25,7 @@ after_questions (suc n) m = record { rows = m.rows; capacity = m.capacity; takes
 pub record Programmed (minimum : Kind → ℕ) (g : List NodeView) (chain : Plan) (program : Program) (rows : List (Question → Bool)) : Type 0 where
   pub accepted : Accepted minimum g
   pub lawful : Lawful g chain
-  pub stands : Stands program g chain
+  pub stands : Stands minimum program g chain
   pub holds : rows ≡ map (λ (r : StoreRow). fits r.row) (store_rows g chain)
 
 -- the packet is read as the turns read it, and so as the plain walk walks it

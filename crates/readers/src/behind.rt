@@ -1,36 +1,31 @@
 // The headers of nodes one right behind the other, by what a program says of the nodes.
-ghost use Rattle.std.specs.Prelude.{◌≡◌, ◌+◌, []};
+ghost use Rattle.std.specs.Prelude.{◌≡◌, ◌+◌};
 ghost use Rattle.std.specs.Iterator.{YieldsFirst, item_count};
-ghost use Rattle.plans.specs.Chains.{nodes_of};
-ghost use Rattle.compiler.specs.Programs.{head_at, head_view, HeadOf};
-ghost use Rattle.readers.specs.Headers.{node_by, mark_by, end_of, marks_left};
+ghost use Rattle.compiler.specs.Programs.{head_at};
+ghost use Rattle.readers.specs.Headers.{mark_by, end_of, marks_left};
 
 use compiler::program::{Head, Program};
 use headers::mark::Mark;
 use walker::header::HeaderAt;
 use walker::step::mark_of;
 
-// The head of a node; the one for no node where the program has no such node. It is lent, since a copy
-// would cost more than what is looked at.
-pub(crate) fn head_of<'a>(program: &'a Program, none: &'a Head, node: u8) -> &'a Head
-    requires { HeadOf [] (λ n. []) 0 none.now }
-    ensures node { head_view result.now ≡ node_by program.now node }
-    ensures chain { nodes_of result.now.chain ≡ nodes_of (head_at program.now node).chain }
-    ensures window { result.now.window ≡ (head_at program.now node).window }
+// The head of a node; the blank one where the program has no such node. It is lent, since a copy would
+// cost more than what is looked at.
+pub(crate) fn head_of(program: &Program, node: u8) -> &Head
+    ensures { result.now ≡ head_at program.now node }
 {
     program
         .heads
         .as_slice()
         .get(usize::from(node))
-        .unwrap_or(none)
+        .unwrap_or(&program.blank)
 }
 
 // The mark of a node's header at an offset.
 pub(crate) fn mark_at(program: &Program, packet: &[u8], node: u8, at: u32) -> Mark
     ensures { result ≡ mark_by program.now packet.now node at }
 {
-    let none = Head::none();
-    let head = head_of(program, &none, node);
+    let head = head_of(program, node);
     let header = HeaderAt { packet, at };
     mark_of(node, head.kind, at, header.measure(head.length))
 }

@@ -4,5 +4,6 @@
 
 mod behind;
 mod front;
+mod key;
 pub mod read;
 mod turn;

@@ -1,7 +1,7 @@
 // A packet read by questions to a store.
-ghost use Rattle.std.specs.Prelude.{◌≡◌, ◌≤◌, List, length};
+ghost use Rattle.std.specs.Prelude.{◌≡◌, ℕ, ◌≤◌, List, length};
 ghost use Rattle.headers.specs.declared.mark.Mark.{Mark};
-ghost use Rattle.headers.specs.Table.{minimum_in};
+ghost use Rattle.headers.specs.declared.kinds.Kind.{Kind};
 ghost use Rattle.graphs.specs.View.{NodeView};
 ghost use Rattle.stores.specs.Meaning.{answer, asked};
 ghost use Rattle.walks.specs.Rows.{Plan, action_at};
@@ -13,7 +13,6 @@ ghost use Rattle.readers.specs.Reading.{after_questions, Programmed, ReadAs};
 use crate::turn::Turn;
 use compiler::program::Program;
 use headers::mark::Mark;
-use headers::table::KindTable;
 use stores::question::Question;
 use stores::store::Store;
 use walker::step::Step;
@@ -46,7 +45,6 @@ impl Reading {
 /// and any store are read by, in at most as many turns as the program has nodes. A mark that has no
 /// place is left out, and an offset over 65,535 is told as 65,535.
 pub fn read<S: Store>(
-    table: &KindTable,
     program: &Program,
     store: &mut S,
     packet: &[u8],
@@ -55,20 +53,15 @@ pub fn read<S: Store>(
     ensures asked { S.Store.meaning store.new ≡ after_questions result.questions (S.Store.meaning store.old) }
     ensures turns { result.questions ≤ length (held program.now.heads) }
     ensures front { (ws : List Mark) × Written marks.old marks.new result.marks ws }
-    ensures read { (g : List NodeView) (chain : Plan) → Programmed (minimum_in table.now) g chain program.now (S.Store.meaning store.old).rows → length packet.now ≤ 9600 → 32 ≤ length marks.old → ReadAs (minimum_in table.now) g chain packet.now marks.old marks.new result }
+    ensures read { (minimum : Kind → ℕ) (g : List NodeView) (chain : Plan) → Programmed minimum g chain program.now (S.Store.meaning store.old).rows → length packet.now ≤ 9600 → 32 ≤ length marks.old → ReadAs minimum g chain packet.now marks.old marks.new result }
 {
-    let reader = Reader {
-        table,
-        program,
-        packet,
-    };
+    let reader = Reader { program, packet };
     reader.read(store, marks)
 }
 
 // A packet, and what it is read by beside a store.
 #[derive(Clone, Copy)]
 struct Reader<'a> {
-    table: &'a KindTable,
     program: &'a Program,
     packet: &'a [u8],
 }
@@ -79,7 +72,7 @@ impl<'a> Reader<'a> {
         ensures asked { S.Store.meaning store.new ≡ after_questions result.questions (S.Store.meaning store.old) }
         ensures turns { result.questions ≤ length (held self.now.program.now.heads) }
         ensures front { (ws : List Mark) × Written marks.old marks.new result.marks ws }
-        ensures read { (g : List NodeView) (chain : Plan) → Programmed (minimum_in self.now.table.now) g chain self.now.program.now (S.Store.meaning store.old).rows → length self.now.packet.now ≤ 9600 → 32 ≤ length marks.old → ReadAs (minimum_in self.now.table.now) g chain self.now.packet.now marks.old marks.new result }
+        ensures read { (minimum : Kind → ℕ) (g : List NodeView) (chain : Plan) → Programmed minimum g chain self.now.program.now (S.Store.meaning store.old).rows → length self.now.packet.now ≤ 9600 → 32 ≤ length marks.old → ReadAs minimum g chain self.now.packet.now marks.old marks.new result }
     {
         let mut node = 0;
         let mut at = 0;
@@ -93,7 +86,7 @@ impl<'a> Reader<'a> {
                 Err(outcome) => return Reading::new(outcome, count, questions),
             };
             let action = ask(self.program, store, &asked.question);
-            let passed = turn.pass(&asked.chain, action, marks, count);
+            let passed = turn.pass(asked.behind, action, marks, count);
             count = passed.marks;
             match passed.step {
                 Step::Stop(outcome) | Step::Last { outcome, .. } => {
@@ -115,10 +108,9 @@ impl<'a> Reader<'a> {
 
     // The turn that begins at a node and an offset.
     fn turn(&self, node: u8, at: u32) -> Turn<'a>
-        ensures { result ≡ record { table = self.now.table; program = self.now.program; packet = self.now.packet; node = node; at = at } }
+        ensures { result ≡ record { program = self.now.program; packet = self.now.packet; node = node; at = at } }
     {
         Turn {
-            table: self.table,
             program: self.program,
             packet: self.packet,
             node,

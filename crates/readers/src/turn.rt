@@ -1,20 +1,21 @@
 // One turn: the question that it asks, and the headers that its answer passes.
-ghost use Rattle.std.specs.Prelude.{◌≡◌, ℕ, ◌≤◌, min, List, ◌∷◌, ◌++◌, length, take};
+ghost use Rattle.std.specs.Prelude.{◌≡◌, ℕ, ◌+◌, min, List, ◌∷◌, ◌++◌, length, take, nat_le};
+ghost use Rattle.refusals.specs.Searching.{fault_of};
 ghost use Rattle.plans.specs.Chains.{nodes_of};
 ghost use Rattle.walks.specs.Outcomes.{outcome};
-ghost use Rattle.walks.specs.Bytes.{spelled_in};
+ghost use Rattle.walks.specs.Bytes.{byte_at, spelled_in};
 ghost use Rattle.walks.specs.Rows.{key_width, question};
-ghost use Rattle.readers.specs.Fronts.{Written};
-ghost use Rattle.readers.specs.Headers.{mark_by, lookups_by, end_of, marks_by, keys_by, marks_left};
+ghost use Rattle.walker.specs.Headers.{refusal_where};
+ghost use Rattle.readers.specs.Headers.{mark_by, bytes_at, end_of, marks_by, marks_left};
 ghost use Rattle.readers.specs.Asking.{wide, TurnAsks, Passes};
 
 use crate::behind::{Behind, end_of, head_of, mark_at};
 use crate::front::put;
+use crate::key::Key;
 use compiler::program::{CHAIN_BASE, Head, Program};
 use graphs::named::named;
 use headers::mark::Mark;
-use headers::table::KindTable;
-use plans::chains::Chain;
+use octets::read::byte_at;
 use stores::question::Question;
 use stores::state::State;
 use walker::header::HeaderAt;
@@ -22,11 +23,12 @@ use walker::step::{Step, follow, told};
 use walks::action::Action;
 use walks::outcome::{Ending, Outcome};
 
-/// The question of a turn, and the chain that it is over: of no nodes where it is over the node alone.
+/// The question of a turn, and the nodes behind the turn's own that it is over: none where it is over
+/// the node alone.
 #[derive(Clone, Copy)]
-pub(crate) struct Asked {
+pub(crate) struct Asked<'a> {
     pub(crate) question: Question,
-    pub(crate) chain: Chain,
+    pub(crate) behind: &'a [u8],
 }
 
 /// What an answer comes to: how many headers are marked by then, and where the target leads behind
@@ -40,7 +42,6 @@ pub(crate) struct Passed {
 /// The header that a turn begins at: of a node of the program, at an offset of the packet.
 #[derive(Clone, Copy)]
 pub(crate) struct Turn<'a> {
-    pub(crate) table: &'a KindTable,
     pub(crate) program: &'a Program,
     pub(crate) packet: &'a [u8],
     pub(crate) node: u8,
@@ -51,24 +52,41 @@ impl<'a> Turn<'a> {
     /// What the turn asks: where the node has a chain and the packet the window's bytes left, one
     /// question over both; otherwise, after the three checks, one over the node alone. Refused as the
     /// checks refuse its header.
-    pub(crate) fn question(&self) -> Result<Asked, Outcome>
+    pub(crate) fn question(&self) -> Result<Asked<'a>, Outcome>
         ensures { TurnAsks self.now result }
     {
-        let none = Head::none();
-        let head = head_of(self.program, &none, self.node);
+        let head = head_of(self.program, self.node);
         if self.in_one_look(head) {
             let state = CHAIN_BASE.wrapping_add(self.node);
-            return Ok(self.asked(state, head.chain));
+            let all = head.lookups.as_slice();
+            return Ok(self.asked(state, all, head.chain.named_nodes()));
+        }
+        match self.check(head) {
+            Err(ending) => Err(self.stopped(ending)),
+            Ok(()) => Ok(self.asked(self.node, head.own_lookups(), &[])),
+        }
+    }
+
+    // The three checks of the header, by what the program says of its node.
+    fn check(&self, head: &Head) -> Result<(), Ending>
+        ensures { fault_of result ≡ refusal_where (nat_le (self.now.at + head.now.needs) (length self.now.packet.now)) self.now.packet.now self.now.at head.now.least head.now.length }
+    {
+        if !self.has(head.needs) {
+            return Err(Ending::Cut);
         }
         let header = HeaderAt {
             packet: self.packet,
             at: self.at,
         };
-        let minimum = self.table.minimum(head.kind);
-        match header.check(minimum, head.length, head.places.as_slice()) {
-            Err(ending) => Err(self.stopped(ending)),
-            Ok(_) => Ok(self.asked(self.node, Chain::none())),
-        }
+        header.check_size(head.least, head.length)?;
+        Ok(())
+    }
+
+    // Whether the packet has so many bytes left.
+    fn has(&self, bytes: u16) -> bool
+        ensures { result ≡ nat_le (self.now.at + bytes) (length self.now.packet.now) }
+    {
+        self.at as usize + usize::from(bytes) <= self.packet.len()
     }
 
     /// The outcome of a reading that stops at the header.
@@ -86,67 +104,55 @@ impl<'a> Turn<'a> {
     fn in_one_look(&self, head: &Head) -> bool
         ensures { result ≡ wide (nodes_of head.now.chain) self.now.at head.now.window (length self.now.packet.now) }
     {
-        let window = usize::from(head.window);
-        !head.chain.named_nodes().is_empty() && self.at as usize + window <= self.packet.len()
+        !head.chain.named_nodes().is_empty() && self.has(head.window)
     }
 
-    // The question for a state over the node and a chain. States are counted modulo 64.
-    fn asked(&self, state: u8, chain: Chain) -> Asked
-        ensures question { result.question ≡ question state (keys_by self.now.program.now self.now.packet.now (self.now.node ∷ nodes_of chain) self.now.at) }
-        ensures chain { result.chain ≡ chain }
+    // The question for a state, by the bytes at lookup places, over the node and those behind it. States
+    // are counted modulo 64.
+    fn asked(&self, state: u8, lookups: &[u16], behind: &'a [u8]) -> Asked<'a>
+        ensures question { result.question ≡ question state (bytes_at self.now.packet.now self.now.at lookups.now) }
+        ensures behind { result.behind.now ≡ behind.now }
     {
-        let key = self.key(chain.named_nodes());
+        let key = self.key(lookups);
         let state = State::new(state % 64).unwrap();
         Asked {
             question: Question { state, key },
-            chain,
+            behind,
         }
     }
 
-    // The lookup bytes of the header and of those behind it, in order, then zeros.
-    fn key(&self, behind: &[u8]) -> u64
-        ensures { result ≡ spelled_in key_width (keys_by self.now.program.now self.now.packet.now (self.now.node ∷ behind.now) self.now.at) }
+    // The bytes at lookup places in order, then zeros.
+    fn key(&self, lookups: &[u16]) -> u64
+        ensures { result ≡ spelled_in key_width (bytes_at self.now.packet.now self.now.at lookups.now) }
     {
-        let mut bytes = [0; 8];
-        let first = self.mark();
-        let mut count = self.look_up(first, &mut bytes, 0);
-        for mark in self.behind(first, behind) {
-            count = self.look_up(mark, &mut bytes, count);
+        let mut key = Key::new();
+        for place in lookups {
+            key.push(self.byte(*place));
         }
-        u64::from_be_bytes(bytes)
+        key.number
     }
 
-    // Puts the lookup bytes of a marked header behind the first `count`, and answers how many stand
-    // there then.
-    fn look_up(&self, mark: Mark, bytes: &mut [u8], mut count: usize) -> usize
-        ensures { (before ws : List ℕ) → Written before bytes.old count ws → Written before bytes.new result (ws ++ lookups_by self.now.program.now self.now.packet.now mark) }
+    // The byte at a place from the header's start on; 0 past the packet's end.
+    fn byte(&self, place: u16) -> u8
+        ensures { result ≡ byte_at self.now.packet.now (self.now.at + place) }
     {
-        let none = Head::none();
-        let head = head_of(self.program, &none, mark.node);
-        let header = HeaderAt {
-            packet: self.packet,
-            at: u32::from(mark.offset),
-        };
-        for place in head.places.as_slice() {
-            count = put(bytes, count, header.byte(*place));
-        }
-        count
+        byte_at(self.packet, self.at as usize + usize::from(place))
     }
 
-    /// Marks the headers that an action passes, that of the node and as many of its chain: the marks
-    /// go behind the first `count`. Then the target leads on behind the last of them.
+    /// Marks the headers that an action passes, that of the node and as many of those behind it: the
+    /// marks go behind the first `count`. Then the target leads on behind the last of them.
     pub(crate) fn pass(
         &self,
-        chain: &Chain,
+        behind: &[u8],
         action: Action,
         marks: &mut [Mark],
         mut count: usize,
     ) -> Passed
-        ensures { Passes self.now (take action.beyond (nodes_of chain.now)) action.target marks.old count marks.new result }
+        ensures { Passes self.now (take action.beyond behind.now) action.target marks.old count marks.new result }
     {
         let mut last = self.mark();
         count = put(marks, count, last);
-        for mark in self.behind(last, named(chain.named_nodes(), action.beyond)) {
+        for mark in self.behind(last, named(behind, action.beyond)) {
             count = put(marks, count, mark);
             last = mark;
         }

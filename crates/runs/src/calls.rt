@@ -14,14 +14,6 @@ pub enum Call<'a> {
     Report,
 }
 
-/// A mark of zeros, which no read writes.
-pub const NO_MARK: Mark = Mark {
-    node: 0,
-    kind: 0,
-    offset: 0,
-    length: 0,
-};
-
 /// What a call answered. A read's marks stand at the front of 32, and zeros behind them.
 #[derive(Clone, Copy, PartialEq, Eq, Debug)]
 pub enum Reply {

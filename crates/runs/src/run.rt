@@ -4,10 +4,10 @@ ghost use Rattle.taps.specs.Plain.{PlainTap};
 ghost use Rattle.taps.specs.Following.{Follows};
 ghost use Rattle.runs.specs.Successions.{no_marks, AnsweredAs, RunAs};
 
-use crate::calls::{Call, NO_MARK, Reply};
+use crate::calls::{Call, Reply};
 use headers::mark::Mark;
 use stores::store::Store;
-use taps::tap::Tap;
+use taps::tap::{NO_MARK, Tap};
 use walker::walk::MOST_MARKS;
 
 /// Makes calls one after the other, and puts each reply in its place, as long as there are calls and

@@ -3,7 +3,6 @@ use examples::sample::FOUR_NODES;
 use headers::mark::Mark;
 use readers::read::Reading;
 use refusals::refusal::{Layer, Refusal};
-use runs::calls::NO_MARK;
 use slices::pile::fresh_pile;
 use slices::sliced::Sliced;
 use std::process::Abort;
@@ -11,7 +10,7 @@ use stores::listing::Listing;
 use stores::store::Store;
 use taps::counts::{Endings, Report, Tally};
 use taps::fault::PacketFault;
-use taps::tap::Tap;
+use taps::tap::{NO_MARK, Tap};
 use walks::outcome::{Ending, Outcome};
 
 // No chains; and the tag taken in one look with Ethernet.

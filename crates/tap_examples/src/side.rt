@@ -1,11 +1,12 @@
 // Two taps side by side: other stores and other plans, and the same reports.
 use crate::reads::{NO_CHAINS, TAG_CHAINED, TAGGED};
 use examples::sample::FOUR_NODES;
-use runs::calls::{Call, NO_MARK, Reply};
+use runs::calls::{Call, Reply};
 use runs::side::side_by_side;
 use slices::pile::fresh_pile;
 use stores::listing::Listing;
 use taps::fault::PacketFault;
+use taps::tap::NO_MARK;
 
 // A load of the sample with a plan, behind a read and a load that are refused; then reads of the packet
 // with a refused load between them, and a report.

@@ -9,10 +9,9 @@ use graphs::graph::Graph;
 use plans::count::row_count;
 use plans::read::read_plan;
 use refusals::refusal::Refusal;
-use runs::calls::NO_MARK;
 use slices::sliced::Sliced;
 use stores::store::Store;
-use taps::tap::Tap;
+use taps::tap::{NO_MARK, Tap};
 use walker::walk::MOST_MARKS;
 
 // A packet of Ethernet, a tag, IPv4 and TCP, and four bytes behind them.

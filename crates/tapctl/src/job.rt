@@ -5,12 +5,11 @@ use crate::table_text::StoreKind;
 use console::failure::Failure;
 use headers::mark::Mark;
 use refusals::refusal::Refusal;
-use runs::calls::NO_MARK;
 use slices::pile::fresh_pile;
 use slices::sliced::Sliced;
 use stores::listing::Listing;
 use stores::store::Store;
-use taps::tap::Tap;
+use taps::tap::{NO_MARK, Tap};
 use walker::walk::MOST_MARKS;
 
 /// A graph file, a plan, and the packets that are read by them: a capture, or one packet.

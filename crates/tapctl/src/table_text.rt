@@ -188,7 +188,7 @@ fn head_of(program: &Program, node: u8) -> Option<Head> {
 
 // How many lookup bytes a node has.
 fn places_of(program: &Program, node: u8) -> usize {
-    head_of(program, node).map_or(0, |head| head.places.as_slice().len())
+    head_of(program, node).map_or(0, |head| head.own_lookups().len())
 }
 
 // A state of a program, which names the nodes that its rows are over.

@@ -4,7 +4,6 @@ use crate::packets::Packets;
 use crate::table_text::StoreKind;
 use console::failure::Failure;
 use refusals::refusal::Refusal;
-use runs::calls::NO_MARK;
 use slices::pile::fresh_pile;
 use slices::sliced::Sliced;
 use std::io;
@@ -12,7 +11,7 @@ use std::rt::Clock;
 use std::time::{Duration, Instant};
 use stores::listing::Listing;
 use stores::store::Store;
-use taps::tap::Tap;
+use taps::tap::{NO_MARK, Tap};
 use walker::walk::MOST_MARKS;
 
 // How many loads are timed, and about how many reads.

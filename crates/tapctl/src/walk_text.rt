@@ -5,7 +5,7 @@ use console::failure::Failure;
 use graphs::graph::Graph;
 use headers::mark::Mark;
 use refusals::refusal::Refusal;
-use runs::calls::NO_MARK;
+use taps::tap::NO_MARK;
 use walker::walk::{MOST_MARKS, walk};
 
 /// Walks each packet of a capture through the graph, or the one packet that the file is, and prints

@@ -57,7 +57,7 @@ put_endings : {S : Type 0} (kind : Kind) (i : Inner S) (w : Tally) → (with_tal
 put_endings kind i w = grind arith
 
 put_rest : {S : Type 0} (kind : Kind) (a i : Inner S) (w : Tally) → SameButCounts a i → SameButCounts a (with_tally kind i w)
-put_rest kind a i w h = record { store = grind arith; table = grind arith; program = grind arith }
+put_rest kind a i w h = record { store = grind arith; program = grind arith }
 
 report : (ts us : List Tally) (e f : Endings) → ts ≡ us → e ≡ f → ◌≡◌ {A = Report} (record { tallies = ts; endings = e }) (record { tallies = us; endings = f })
 report ts us e f p q = cc

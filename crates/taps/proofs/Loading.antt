@@ -26,7 +26,6 @@ module _ {S : Type 0} (meaning : S → Meaning) (t : Tap S) (s : S) (file plan :
     next = p;
     plain = refused least;
     follows = record {
-      kinds = f.kinds;
       loaded = subst (λ (m : Meaning). LoadedAs p.loaded t.inner.program m.rows) (sym same) f.loaded;
       counts = f.counts;
     };
@@ -41,7 +40,6 @@ module _ {S : Type 0} (meaning : S → Meaning) (t : Tap S) (s : S) (file plan :
         next = loading its p;
         plain = accepted none l.read refl;
         follows = record {
-          kinds = f.kinds;
           loaded = record { accepted = its.accepted; lawful = its.lawful; stands = l.stands; holds = ap (λ (m : Meaning). m.rows) l.rows };
           counts = f.counts;
         };

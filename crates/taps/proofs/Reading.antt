@@ -3,8 +3,7 @@ use Rattle.std.proofs.Common.{◌≡◌, ℕ, zero, suc, ◌≤◌, Bool, List, 
 use Rattle.refusals.specs.Least.{Least}
 use Rattle.std.proofs.Math.Seq.{take-append_seam}
 use Rattle.headers.specs.declared.mark.Mark.{Mark}
-use Rattle.headers.specs.declared.table.KindTable.{KindTable}
-use Rattle.headers.specs.Table.{minimum_in}
+use Rattle.headers.specs.declared.kinds.Kind.{Kind}
 use Rattle.graphs.specs.View.{NodeView}
 use Rattle.walks.specs.Rows.{Plan}
 use Rattle.walks.specs.Turning.{read_by}
@@ -14,6 +13,7 @@ use Rattle.compiler.specs.declared.program.Program.{Program}
 use Rattle.readers.specs.declared.read.Reading.{Reading}
 use Rattle.readers.specs.Reading as readers
 use Rattle.readers.specs.Reading.{after_questions, Programmed}
+use Rattle.readers.proofs.Going.{same_rows}
 use Rattle.taps.specs.declared.fault.PacketFault.{PacketFault}
 use Rattle.taps.specs.declared.inner.Inner.{Inner}
 use Rattle.taps.specs.declared.tap.Tap.{Tap}
@@ -25,12 +25,7 @@ use Rattle.taps.specs.Plain.PlainRead.{refused, walked}
 use Rattle.taps.specs.Following.{LoadedAs, Follows, ReadFollows}
 use Rattle.taps.proofs.Refused.{none_applies}
 
--- questions leave the rows
-pub rows_kept : (n : ℕ) (m : Meaning) → (after_questions n m).rows ≡ m.rows
-rows_kept zero m = refl
-rows_kept (suc n) m = refl
-
--- and the capacity
+-- questions leave the capacity
 pub capacity_kept : (n : ℕ) (m : Meaning) → (after_questions n m).capacity ≡ m.capacity
 capacity_kept zero m = refl
 capacity_kept (suc n) m = refl
@@ -58,8 +53,8 @@ module _ {S : Type 0} (meaning : S → Meaning) (t : Tap S) (packet : List ℕ) 
 
   module _ (program : Program) (there : t.inner.program ≡ Some program) (s : S) (i : Inner S) (after : List Mark) (r : Reading)
       (asked : meaning s ≡ after_questions r.questions (meaning t.inner.store))
-      (reads : (g : List NodeView) (chain : Plan) → Programmed (minimum_in t.inner.table) g chain program (meaning t.inner.store).rows → length packet ≤ 9600 → 32 ≤ length before
-      → readers.ReadAs (minimum_in t.inner.table) g chain packet before after r)
+      (reads : (fewest : Kind → ℕ) (g : List NodeView) (chain : Plan) → Programmed fewest g chain program (meaning t.inner.store).rows → length packet ≤ 9600 → 32 ≤ length before
+      → readers.ReadAs fewest g chain packet before after r)
       (counts : (c : Counts) → report_in t.inner ≡ report_of c → report_in i ≡ report_of (counted (take r.marks after) r.outcome.ending c))
       (rest : SameButCounts (record t.inner { store = s }) i) (short : length packet ≤ 9600) (enough : 32 ≤ length before) where
     pub read_walked : ReadFollows p packet before after (Ok r) (Follows meaning (record { inner = i }))
@@ -67,19 +62,17 @@ module _ {S : Type 0} (meaning : S → Meaning) (t : Tap S) (packet : List ℕ) 
         let rows = (meaning t.inner.store).rows in
         let some = some_loaded p.loaded t.inner.program rows program f.loaded there in
         let l = some.0 in
-        let stands = subst (λ (table : KindTable). Programmed (minimum_in table) l.graph l.chain program rows) (sym f.kinds) some.2 in
-        let said = subst (λ (table : KindTable). readers.ReadAs (minimum_in table) l.graph l.chain packet before after r) f.kinds (reads l.graph l.chain stands short enough) in
+        let said = reads minimum l.graph l.chain some.2 short enough in
         let ms = (read_by minimum l.graph l.chain packet).marks in
         let next = counting (counted ms r.outcome.ending p.counts) p in
         let tells : Tells l packet ms r = record { walks = said.walks; only = said.only; marks = said.marks; questions = said.questions; few = said.few; plainly = said.plainly } in
-        let same = ap (λ z. (meaning z).rows) rest.store ∙ ap (λ (m : Meaning). m.rows) asked ∙ rows_kept r.questions (meaning t.inner.store) in
+        let same = ap (λ z. (meaning z).rows) rest.store ∙ ap (λ (m : Meaning). m.rows) asked ∙ same_rows r.questions (meaning t.inner.store) in
         record {
           next = next;
           plain =
               subst (λ xs. PlainRead p packet before (Ok r) xs next) (sym said.written)
               (walked (none_applies (length packet) (length before) p.loaded l short enough some.1) some.1 tells);
           follows = record {
-            kinds = rest.table ∙ f.kinds;
             loaded = subst (λ q. LoadedAs p.loaded q (meaning i.store).rows) (sym rest.program) (subst (LoadedAs p.loaded t.inner.program) (sym same) f.loaded);
             counts = counts p.counts f.counts ∙ ap (λ xs. report_of (counted xs r.outcome.ending p.counts)) (front r.marks ms (drop (length ms) before) after said.marks said.written);
           };

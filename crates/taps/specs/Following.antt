@@ -1,7 +1,6 @@
 -- When a tap follows a plain one, and what each call promises.
 use Rattle.std.specs.Prelude.{◌≡◌, ℕ, Bool, List, Some, None, Ok, Err, Option, Result}
 use Rattle.headers.specs.declared.mark.Mark.{Mark}
-use Rattle.headers.specs.Table.{standard_table}
 use Rattle.graph_reader.specs.Decoding.{nodes_in}
 use Rattle.stores.specs.declared.question.Question.{Question}
 use Rattle.stores.specs.Meaning.{Meaning}
@@ -28,7 +27,6 @@ LoadedAs (Some l) (Some program) rows = Programmed minimum l.graph l.chain progr
 -- the tap t, over a store of some meaning, follows the plain tap p: what is loaded is what p accepted last, and each count is p's
 -- or, if that is more, 4,294,967,295
 pub record Follows {S : Type 0} (meaning : S → Meaning) (t : Tap S) (p : PlainTap) : Type 0 where
-  pub kinds : t.inner.table ≡ standard_table
   pub loaded : LoadedAs p.loaded t.inner.program (meaning t.inner.store).rows
   pub counts : report_in t.inner ≡ report_of p.counts
 

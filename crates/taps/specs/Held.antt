@@ -23,7 +23,6 @@ module _ {S : Type 0} where
   -- what is no count is the same
   pub record SameButCounts (a b : Inner S) : Type 0 where
     pub store : b.store ≡ a.store
-    pub table : b.table ≡ a.table
     pub program : b.program ≡ a.program
 
   -- the tally of a kind, and the same with another in its place

@@ -1,7 +1,6 @@
 // What a tap holds, and how a read is counted.
 ghost use Rattle.std.specs.Prelude.{◌≡◌, [], None};
 ghost use Rattle.std.specs.Borrow.{sem};
-ghost use Rattle.headers.specs.Table.{standard_table};
 ghost use Rattle.taps.specs.Counts.{Counts, no_counts, report_of, counted};
 ghost use Rattle.taps.specs.Held.{report_in, tally_in, LendsTally, with_mark, SameButCounts};
 
@@ -9,16 +8,13 @@ use crate::counts::{Endings, Report, Tally};
 use compiler::program::Program;
 use headers::kinds::Kind;
 use headers::mark::Mark;
-use headers::table::KindTable;
 use walks::outcome::Ending;
 
-/// A tap's store, the kinds' table, what is loaded, and the counts: a tally for each kind, and the
-/// endings.
+/// A tap's store, what is loaded, and the counts: a tally for each kind, and the endings.
 // A tally is lent from a field, which an array of tallies would not allow.
 #[derive(Drop)]
 pub struct Inner<S> {
     pub store: S,
-    pub table: KindTable,
     pub program: Option<Program>,
     pub ethernet: Tally,
     pub vlan: Tally,
@@ -38,14 +34,12 @@ impl<S> Inner<S> {
     // Nothing loaded, and counts of 0.
     pub(crate) fn new(store: S) -> Inner<S>
         ensures store { result.store ≡ store }
-        ensures table { result.table ≡ standard_table }
         ensures program { result.program ≡ None }
         ensures counts { report_in result ≡ report_of no_counts }
     {
         let none = Tally::default();
         Inner {
             store,
-            table: KindTable::standard(),
             program: None,
             ethernet: none,
             vlan: none,

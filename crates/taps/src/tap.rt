@@ -21,6 +21,14 @@ use readers::read::{Reading, read};
 use stores::store::Store;
 use walker::walk::{MOST_MARKS, MOST_PACKET};
 
+/// A mark of zeros, which no read writes: what stands in marks before they are lent.
+pub const NO_MARK: Mark = Mark {
+    node: 0,
+    kind: 0,
+    offset: 0,
+    length: 0,
+};
+
 /// A store with the graph and the plan last loaded into it, and counts of what was read.
 #[derive(Drop)]
 pub struct Tap<S> {
@@ -75,7 +83,7 @@ impl<S: Store> Tap<S> {
         let Some(program) = &inner.program else {
             return Err(PacketFault::NothingLoaded);
         };
-        let reading = read(&inner.table, program, &mut inner.store, packet, marks);
+        let reading = read(program, &mut inner.store, packet, marks);
         inner.count(&marks[..reading.marks], reading.outcome.ending);
         Ok(reading)
     }

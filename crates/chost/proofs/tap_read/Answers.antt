@@ -1,13 +1,14 @@
 use Rattle.std.proofs.Common.{◌≡◌, length, take, drop, replicate, ◌∙◌, arith, rules}
 use Rattle.std.proofs.lemmas.List.{length-take-le}
-use Rattle.chost.specs.declared.TheConstants.{NO_MARK}
+use Rattle.headers.specs.declared.mark.Mark.{Mark}
 use Rattle.chost.specs.Once.{trace}
 use Rattle.chost.proofs.Alike.{behind, called_alike}
 use Rattle.chost.proofs.tap_read.Goals as goal
 
 pub returns-clause-called : goal.returns-clause-called
 returns-clause-called c =
-    let none = replicate 32 NO_MARK in
+    let blank : Mark = record { node = 0; kind = 0; offset = 0; length = 0 } in
+    let none = replicate 32 blank in
     let lent = take c.room.result none in
     let read = c.read_once-answer in
     let size : length lent ≡ c.room.result = length-take-le c.room.result none (omega (arith, c.room.ensures)) in

@@ -15,6 +15,7 @@ load-requires g c =
     record {
       few = l.few;
       room = omega (arith, l.room, c.capacity.ensures);
+      lawful = l.lawful;
       past = λ n h. ap (λ chain. chain n) l.same ∙ chain_past c.args.plan.now (length (graph_view c.in_ok-checked.checked.graph)) n l.size h;
     }
 
@@ -33,7 +34,7 @@ returns g c =
           read = l.read;
           lawful = subst (Lawful gr) l.same l.lawful;
           rows = c.load.ensures.rows ∙ ap (λ chain. storing m (store_rows gr chain)) l.same;
-          stands = subst (Stands c.load.new.program gr) l.same c.load.ensures.stands;
+          stands = subst (Stands (minimum_in c.args.table.now) c.load.new.program gr) l.same c.load.ensures.stands;
         },
       );
       kept = tt;

@@ -1,4 +1,5 @@
 use Rattle.std.proofs.Common.{map, length, sym, ap, ◌∙◌, arith}
+use Rattle.headers.specs.Table.{minimum_in}
 use Rattle.graphs.specs.View.{graph_view}
 use Rattle.plans.specs.Chains.{chain_of}
 use Rattle.walks.proofs.Count.{rows_counted}
@@ -32,12 +33,15 @@ pub returns-clause-stands : goal.returns-clause-stands
 returns-clause-stands g c =
     let gr = graph_view c.args.checked.now.graph in
     let chain = chain_of c.args.checked.now.chains in
+    let minimum = minimum_in c.args.table.now in
     let h = c.heads_of-program.ensures in
+    let blank = c.blank-program.result in
     let rs = all_rows c.args.checked.now in
     let sink = c.fill.new.self in
     let after = c.fill.ensures.filled.after ∙ ap (λ s. sunk s (map line_of rs)) c.empty.ensures.after in
     record {
       count = h.count;
-      heads = all_heads gr chain (held c.heads_of-program.result) h.count c.requires.past h.each;
+      heads = all_heads minimum gr chain (held c.heads_of-program.result) blank h.count c.requires.past c.blank-program.ensures h.each;
+      blank = c.blank-program.ensures;
       actions = actions_stored (g.S.Store.meaning c.args.store.now) (g.S.Store.meaning sink.store.now) (held sink.actions.now) rs after;
     }

@@ -1,6 +1,6 @@
-use Rattle.std.proofs.Common.{◌≡◌, ◌≤◌, List, length}
+use Rattle.std.proofs.Common.{◌≡◌, ℕ, ◌≤◌, List, length}
 use Rattle.headers.specs.declared.mark.Mark.{Mark}
-use Rattle.headers.specs.Table.{minimum_in}
+use Rattle.headers.specs.declared.kinds.Kind.{Kind}
 use Rattle.graphs.specs.View.{NodeView}
 use Rattle.walks.specs.Rows.{Plan}
 use Rattle.readers.specs.Fronts.{Written}
@@ -14,6 +14,6 @@ invariant-loop-questions g l =
       asked : meaning l.store ≡ after_questions l.questions (meaning l.initial.store);
       front : (ws : List Mark) × Written l.initial.marks l.marks l.count ws;
       going :
-          (gr : List NodeView) (chain : Plan) → Programmed (minimum_in l.self.table.now) gr chain l.self.program.now (meaning l.initial.store).rows → length l.self.packet.now ≤ 9600
-          → Going (minimum_in l.self.table.now) gr chain l.self.packet.now l.initial.marks l.marks l.count l.questions l.node l.at;
+          (minimum : Kind → ℕ) (gr : List NodeView) (chain : Plan) → Programmed minimum gr chain l.self.program.now (meaning l.initial.store).rows → length l.self.packet.now ≤ 9600
+          → Going minimum gr chain l.self.packet.now l.initial.marks l.marks l.count l.questions l.node l.at;
     }

@@ -1,19 +1,18 @@
-use Rattle.std.proofs.Common.{◌∷◌, ap, ◌∙◌}
-use Rattle.std.specs.Int.{w64, from_be_bytes}
-use Rattle.readers.specs.Headers.{lookups_by, keys_by, marks_left}
-use Rattle.readers.proofs.Looking.{filling_first, filling_done, key_spelled}
+use Rattle.std.proofs.Common.{◌+◌, ap, ◌∙◌}
+use Rattle.std.proofs.lemmas.List.{take_all}
+use Rattle.walks.specs.Bytes.{byte_at, spelled_in}
+use Rattle.readers.specs.Headers.{bytes_at}
+use Rattle.readers.proofs.Looking.{looked_more}
 use Rattle.readers.proofs.turn.Turn.key.Goals as goal
 
-pub loop-mark-init : goal.loop-mark-init
-loop-mark-init c =
-    filling_first c.args.self.now.program.now c.args.self.now.packet.now c.args.self.now.node c.args.self.now.at c.args.behind.now
-    c.mark-first.result c.mark-first.ensures (marks_left c.into_iter-mark-iterator.result) (ap marks_left c.into_iter-mark-iterator.ensures.into_iter_gives ∙ c.behind-mark-items.ensures)
-    c.look_up-count.new.bytes c.look_up-count.result c.look_up-count.ensures
+pub loop-place-preserved : goal.loop-place-preserved
+loop-place-preserved c =
+    let self = c.args.self.now in
+    looked_more (λ i. byte_at self.packet.now (self.at + i)) c.args.lookups.now c.loop-place.place-index c.loop-place-test.true
+    c.byte.result c.byte.ensures c.loop-place.key c.push.new.self c.loop-place.invariant c.push.ensures
 
 pub returns : goal.returns
 returns c =
-    let whole = keys_by c.args.self.now.program.now c.args.self.now.packet.now (c.args.self.now.node ∷ c.args.behind.now) c.args.self.now.at in
-    c.from_be_bytes.ensures
-    ∙ ap (from_be_bytes w64) (filling_done (lookups_by c.args.self.now.program.now c.args.self.now.packet.now) c.loop-mark.bytes c.loop-mark.count (marks_left c.loop-mark.mark-iterator) whole
-    c.loop-mark.invariant c.in-None.ensures.steps.0)
-    ∙ key_spelled whole
+    let self = c.args.self.now in
+    c.loop-place.invariant.number
+    ∙ ap (λ ps. spelled_in 8 (bytes_at self.packet.now self.at ps)) (take_all c.loop-place.place-index c.args.lookups.now c.loop-place-test.false)

@@ -1,8 +1,8 @@
-use Rattle.readers.specs.Headers.{lookups_by, keys_by, marks_left}
-use Rattle.std.proofs.Common.{◌∷◌}
-use Rattle.readers.proofs.Looking.{Filling}
+use Rattle.std.proofs.Common.{take}
+use Rattle.readers.specs.Headers.{bytes_at}
+use Rattle.readers.specs.Keys.{Spells}
 use Rattle.readers.proofs.turn.Turn.key.Given as goal
 
-abbrev pub invariant-loop-mark : goal.invariant-loop-mark
-invariant-loop-mark l =
-    Filling (lookups_by l.self.program.now l.self.packet.now) l.bytes l.count (marks_left l.mark-iterator) (keys_by l.self.program.now l.self.packet.now (l.self.node ∷ l.fn.behind) l.self.at)
+-- the bytes at the places so far are spelled
+abbrev pub invariant-loop-place : goal.invariant-loop-place
+invariant-loop-place l = Spells l.key (bytes_at l.self.packet.now l.self.at (take l.place-index l.lookups))

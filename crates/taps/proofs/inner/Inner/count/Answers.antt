@@ -7,7 +7,7 @@ use Rattle.taps.proofs.Counting.{none_marked, mark_counted, rest_same, read_coun
 use Rattle.taps.proofs.inner.Inner.count.Goals as goal
 
 pub loop-mark-init : goal.loop-mark-init
-loop-mark-init g c = record { counts = λ d e. e ∙ sym (none_marked d); rest = record { store = refl; table = refl; program = refl } }
+loop-mark-init g c = record { counts = λ d e. e ∙ sym (none_marked d); rest = record { store = refl; program = refl } }
 
 pub loop-mark-preserved : goal.loop-mark-preserved
 loop-mark-preserved g c =
@@ -30,5 +30,5 @@ returns g c =
       counts = λ d e.
           ap (λ es. report_in (record l.self { endings = es })) c.raise-2.ensures
           ∙ read_counted l.self c.args.marks.now c.args.ending d (l.invariant.counts d e ∙ ap (λ xs. report_of (with_marks xs d)) all);
-      rest = record { store = l.invariant.rest.store; table = l.invariant.rest.table; program = l.invariant.rest.program };
+      rest = record { store = l.invariant.rest.store; program = l.invariant.rest.program };
     }
