@@ -11,7 +11,8 @@ pub enum CaptureFault {
     HeaderCut {
         offset: usize,
     },
-    /// The packet of the record at the offset is cut: how many bytes the record names, and how many are there.
+    /// The packet of the record at the offset is cut: how many bytes the record names, and how many are
+    /// there.
     PacketCut {
         offset: usize,
         captured: u32,

@@ -31,8 +31,8 @@ pub struct Format {
     pub resolution: Resolution,
 }
 
-/// The format of a capture file, by its header.
-/// Refused if the file has fewer than 24 bytes or no magic number, or else if its link type is not Ethernet.
+/// The format of a capture file, by its header. Refused if the file has fewer than 24 bytes or no magic
+/// number, or else if its link type is not Ethernet.
 pub fn open(file: &[u8]) -> Result<Format, CaptureFault>
     ensures is { result ≡ opened file.now }
     ensures says { MatchResult result (Opens file.now) (Refused file.now) }
@@ -48,7 +48,8 @@ pub fn open(file: &[u8]) -> Result<Format, CaptureFault>
     Ok(format)
 }
 
-/// Whether a file begins with one of the four magic spellings, so that it is a capture and not a single packet.
+/// Whether a file begins with one of the four magic spellings, so that it is a capture and not a single
+/// packet.
 pub fn is_capture(file: &[u8]) -> bool
     ensures is { result ≡ is_some (format_in file.now) }
     ensures begins { Decides result ((m : Format) × Begins file.now m) }

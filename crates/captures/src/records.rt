@@ -6,9 +6,10 @@ use crate::bytes::number_at;
 use crate::fault::CaptureFault;
 use crate::format::Format;
 
-/// What a record says, in numbers: when its packet came, how long it was, and where in the file it lies.
-/// The fraction counts millionths or billionths of a second, as the file's format says.
-/// The packet begins at `begin` and has `length` bytes here; it had `original`. The next record begins at `next`.
+/// What a record says, in numbers: when its packet came, how long it was, and where in the file it
+/// lies. The fraction counts millionths or billionths of a second, as the file's format says. The
+/// packet begins at `begin` and has `length` bytes here; it had `original`. The next record begins at
+/// `next`.
 #[derive(Clone, Copy, PartialEq, Eq, Debug)]
 pub struct Entry {
     pub seconds: u32,
@@ -26,8 +27,8 @@ pub struct Record<'a> {
     pub packet: &'a [u8],
 }
 
-/// The records of a file one after the other, up to its end: each as `next` gives it. Where one is cut its fault comes,
-/// once, and then no more.
+/// The records of a file one after the other, up to its end: each as `next` gives it. Where one is cut
+/// its fault comes, once, and then no more.
 #[derive(Clone, Drop)]
 pub struct Records<'a> {
     file: &'a [u8],
@@ -71,10 +72,11 @@ impl<'a> Iterator for Records<'a> {
     }
 }
 
-// A file, its format and an offset are `Records` to who goes over the records; a call for one record takes them apart.
+// A file, its format and an offset are `Records` to who goes over the records; a call for one record
+// takes them apart.
 
-/// The record that begins at the offset; `Ok(None)` at the file's end.
-/// Refused, with the offset, if the record's header or its packet is cut; so is any offset behind the file's end.
+/// The record that begins at the offset; `Ok(None)` at the file's end. Refused, with the offset, if the
+/// record's header or its packet is cut; so is any offset behind the file's end.
 pub fn next<'a>(
     file: &'a [u8],
     format: Format,

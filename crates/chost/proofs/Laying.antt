@@ -2,9 +2,10 @@
 use Rattle.std.proofs.Common.{◌≡◌, ℕ, ◌+◌, ◌*◌, ◌<◌, List, [], ◌∷◌, ◌++◌, length, get_or, take, drop, sym, refl, ap, ◌∙◌, ap₂, append_assoc, arith}
 use Rattle.std.specs.List.{flat_map}
 use Rattle.std.proofs.lemmas.List.{length-take-le, take_at, drop_at, drop-drop, take_more, flat_map_more}
+use Rattle.octets.specs.Writing.{written}
 use Rattle.headers.specs.declared.mark.Mark.{Mark}
 use Rattle.readers.specs.declared.read.Reading.{Reading}
-use Rattle.chost.specs.Area.{head, mark_bytes, written}
+use Rattle.chost.specs.Area.{head, mark_bytes}
 
 -- six bytes a mark
 pub marks_length : (marks : List Mark) → length (flat_map mark_bytes marks) ≡ 6 * length marks

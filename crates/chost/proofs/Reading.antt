@@ -6,6 +6,7 @@ use Rattle.std.proofs.lemmas.Bool.{cases_lt}
 use Rattle.refusals.specs.declared.refusal.Refusal.{Refusal}
 use Rattle.refusals.specs.Searching.{unless, unless_fault}
 use Rattle.headers.specs.declared.mark.Mark.{Mark}
+use Rattle.headers.specs.Table.{minimum}
 use Rattle.graph_reader.specs.Decoding.{nodes_in}
 use Rattle.stores.specs.declared.question.Question.{Question}
 use Rattle.walks.specs.declared.outcome.Outcome.{Outcome}
@@ -24,7 +25,7 @@ use Rattle.taps.specs.declared.fault.PacketFault.{PacketFault}
 use Rattle.taps.specs.declared.fault.PacketFault.TheVariants.{LongPacket, FewMarks, NothingLoaded}
 use Rattle.taps.specs.Faults.{of_packet, packet_fault, is_loaded}
 use Rattle.taps.specs.Following.{LoadedAs}
-use Rattle.taps.specs.Plain.{minimum, GraphAndPlan, PlainTap, fresh, Tells, PlainLoad, PlainRead}
+use Rattle.taps.specs.Plain.{GraphAndPlan, PlainTap, fresh, Tells, PlainLoad, PlainRead}
 use Rattle.taps.specs.Plain.PlainLoad.{accepted}
 use Rattle.taps.specs.Plain.PlainRead.{walked}
 use Rattle.chost.specs.Once.{capacity, trace, told, call, Front}

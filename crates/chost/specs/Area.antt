@@ -24,7 +24,3 @@ laid r marks = head r ++ flat_map mark_bytes (take r.marks marks)
 -- an area with bytes at its front, and the bytes behind them as they were
 abbrev pub with_front : List ℕ → List ℕ → List ℕ
 with_front bytes area = bytes ++ drop (length bytes) area
-
--- and with bytes from a place on
-abbrev pub written : List ℕ → ℕ → List ℕ → List ℕ
-written area at bytes = take at area ++ (bytes ++ drop (at + length bytes) area)

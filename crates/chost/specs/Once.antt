@@ -4,6 +4,7 @@ use Rattle.std.specs.Prelude.{◌≡◌, ℕ, ◌≤◌, List, length, take, Som
 use Rattle.refusals.specs.declared.refusal.Refusal.{Refusal}
 use Rattle.refusals.specs.Searching.{unless_fault}
 use Rattle.headers.specs.declared.mark.Mark.{Mark}
+use Rattle.headers.specs.Table.{minimum}
 use Rattle.graph_reader.specs.Decoding.{nodes_in}
 use Rattle.walks.specs.Turning.{Trace, read_by}
 use Rattle.plans.specs.Chains.{chain_in}
@@ -13,7 +14,7 @@ use Rattle.compiler.specs.Loading.{load_fault}
 use Rattle.readers.specs.declared.read.Reading.{Reading}
 use Rattle.taps.specs.declared.fault.PacketFault.{PacketFault}
 use Rattle.taps.specs.Faults.{of_packet, packet_fault}
-use Rattle.taps.specs.Plain.{minimum, PlainTap, fresh, PlainLoad, PlainRead}
+use Rattle.taps.specs.Plain.{PlainTap, fresh, PlainLoad, PlainRead}
 
 -- the rows of the store
 abbrev pub capacity : ℕ

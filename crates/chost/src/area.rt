@@ -1,6 +1,7 @@
 // What is laid out in an area, byte by byte.
 ghost use Rattle.std.specs.Prelude.{◌≡◌, ◌+◌, ◌*◌, ◌≤◌, length, take};
-ghost use Rattle.chost.specs.Area.{room, head, mark_bytes, laid, with_front, written};
+ghost use Rattle.octets.specs.Writing.{written};
+ghost use Rattle.chost.specs.Area.{room, head, mark_bytes, laid, with_front};
 
 use headers::mark::Mark;
 use readers::read::Reading;

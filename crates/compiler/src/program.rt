@@ -25,10 +25,11 @@ pub const ROWS: usize = 512;
 /// The states whose rows are over a node and its chain begin here, with that of node 0.
 pub const CHAIN_BASE: u8 = 32;
 
-/// What a reader keeps of a node: its kind and length rule; its chain, and the bytes that both take from
-/// a packet; the places of the lookup bytes of both, counted from the node's start, the node's own first,
-/// and how many of them are its own; the fewest bytes that hold all that a step at the node reads; and
-/// the fewest that a header of its kind has. So a read works out nothing that is known at load.
+/// What a reader keeps of a node: its kind and length rule; its chain, and the bytes that both take
+/// from a packet; the places of the lookup bytes of both, counted from the node's start, the node's own
+/// first, and how many of them are its own; the fewest bytes that hold all that a step at the node
+/// reads; and the fewest that a header of its kind has. So a read works out nothing that is known at
+/// load.
 #[derive(Clone, Copy)]
 pub struct Head {
     pub kind: Kind,

@@ -46,7 +46,8 @@ pub fn copy_of<'a>(heap: Global, file: &[u8]) -> Result<Vec<u8>, Failure<'a>>
     filled(heap, |area| copy_graph(file, area))
 }
 
-// What a call writes to the front of an area with room for the longest file, up to the length that it answers.
+// What a call writes to the front of an area with room for the longest file, up to the length that it
+// answers.
 fn filled<'a, F: FnOnce(&mut [u8]) -> Result<usize, WriteFault>>(
     heap: Global,
     write: F,

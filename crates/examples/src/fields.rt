@@ -6,8 +6,9 @@ use headers::part::{field, payload};
 use headers::table::{FieldPlace, KindTable};
 use refusals::refusal::{Layer, Refusal};
 
-// Number, kind, fewest bytes, number of fields, and each field's offset and length. The number stands beside an array:
-// a slice for each kind was tried, and the proof that a place lies in it comes to no end.
+// Number, kind, fewest bytes, number of fields, and each field's offset and length. The number stands
+// beside an array: a slice for each kind was tried, and the proof that a place lies in it comes to no
+// end.
 const KINDS: [(u8, Kind, u8, usize, [(u8, u8); 4]); 11] = [
     (0, Kind::Ethernet, 14, 3, [(0, 6), (6, 6), (12, 2), (0, 0)]),
     (1, Kind::Vlan, 4, 2, [(0, 2), (2, 2), (0, 0), (0, 0)]),

@@ -13,7 +13,8 @@ fn refused(file: &[u8]) -> Option<Refusal> {
     read_graph(file).err().map(Refusal::from)
 }
 
-// A byte of the four-node file and another value for it; the number, layer and place that it is refused by.
+// A byte of the four-node file and another value for it; the number, layer and place that it is refused
+// by.
 const DAMAGED: [(usize, u8, u8, Layer, u16, u16); 28] = [
     (0, 0, 1, Layer::File, 0, 0),
     (0, 33, 1, Layer::File, 0, 0),

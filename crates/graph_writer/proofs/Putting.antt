@@ -3,6 +3,7 @@ use Rattle.std.specs.Option.{option_or, option_map}
 use Rattle.std.proofs.Common.{◌≡◌, ℕ, suc, ◌+◌, ◌*◌, ◌<◌, leb, List, [], ◌∷◌, ◌++◌, map, length, get_or, take, drop, None, sym, refl, ap, ◌∙◌, ap₂, add-zero, zero-add, arith}
 use Rattle.std.specs.List.{flat_map}
 use Rattle.std.proofs.lemmas.List.{length-append, take_more, flat_map_more, map_more, length-map, length-take-le}
+use Rattle.octets.specs.Writing.{written}
 use Rattle.headers.specs.declared.kinds.Kind.{Kind}
 use Rattle.graphs.specs.declared.graph.Graph.{Graph}
 use Rattle.graph_writer.specs.declared.fault.WriteFault.TheVariants.{File, Graph as InGraph, Area}
@@ -12,7 +13,7 @@ use Rattle.graphs.specs.declared.graph.Node.{Node}
 use Rattle.graphs.specs.View.{NodeView, node_view, graph_view}
 use Rattle.graph_reader.specs.Encoding.{two, record_of, record_length, pairs_from, encode}
 use Rattle.graph_writer.specs.Writing.{record_for, Standing, count_fault, records_fault, write_fault}
-use Rattle.graph_writer.specs.Parts.{written, file_for}
+use Rattle.graph_writer.specs.Parts.{file_for}
 use Rattle.graph_reader.proofs.Places.{sizes, pairs_length}
 
 -- the parts of so many elements, one more

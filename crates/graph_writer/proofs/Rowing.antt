@@ -7,12 +7,13 @@ use Rattle.graphs.specs.declared.graph.Node.{Node}
 use Rattle.graphs.specs.View.{row_count, node_view}
 use Rattle.graph_reader.specs.Encoding.{length_bytes, row_bytes, place_bytes, sort_byte, record_with, record_of}
 use Rattle.std.proofs.lemmas.Bool.{cond-true, lt-ltb, leb-true, and_parts}
+use Rattle.octets.specs.Writing.{written}
 use Rattle.headers.specs.Kinds.{kind_number}
 use Rattle.graph_reader.specs.Records.{at, right}
 use Rattle.graph_reader.specs.Files.{first_wrong}
 use Rattle.refusals.proofs.Searching.{holds}
 use Rattle.graph_writer.specs.Writing.{record_for}
-use Rattle.graph_writer.specs.Parts.{Counted as Counts, place_byte, written, head_of, bytes_for}
+use Rattle.graph_writer.specs.Parts.{Counted as Counts, place_byte, head_of, bytes_for}
 use Rattle.graph_reader.proofs.Places.{length_of, rows_length}
 
 pub head_length : (n : Node) → length (head_of n) ≡ 16

@@ -1,8 +1,8 @@
 -- One part written behind another.
 use Rattle.std.proofs.Common.{◌≡◌, ℕ, ◌+◌, ◌-◌, ◌≤◌, List, [], ◌++◌, length, take, drop, sym, ap, ◌∙◌, ap₂, append_assoc, append-nil, arith}
 use Rattle.std.proofs.lemmas.List.{length-append, length-take-le, length-drop, take_at, take_all, drop_at, drop_all, drop-drop}
+use Rattle.octets.specs.Writing.{written}
 use borrow.Rule.Slice.PartMut.{put_mid}
-use Rattle.graph_writer.specs.Parts.{written}
 
 module _ (area : List ℕ) (at : ℕ) (b : List ℕ) (fits : at + length b ≤ length area) where
   front : length (take at area ++ b) ≡ at + length b

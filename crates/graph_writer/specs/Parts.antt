@@ -7,10 +7,6 @@ use Rattle.graphs.specs.View.{node_view, row_count}
 use Rattle.graph_reader.specs.Encoding.{length_bytes, sort_byte, row_bytes, pairs_from}
 use Rattle.graph_writer.specs.Writing.{record_for}
 
--- an area with bytes written from a place on
-abbrev pub written : List ℕ → ℕ → List ℕ → List ℕ
-written area at bytes = take at area ++ (bytes ++ drop (at + length bytes) area)
-
 -- the byte of lookup place j: the place, or zero where the count does not name it
 abbrev pub place_byte : ℕ → List ℕ → ℕ → ℕ
 place_byte count places j = cond (nat_lt j count) (slice_index places j) 0

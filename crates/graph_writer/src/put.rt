@@ -1,10 +1,11 @@
 // The bytes of a graph's file, put into an area part by part.
 ghost use Rattle.std.specs.Prelude.{◌≡◌, ℕ, ◌+◌, ◌*◌, ◌<◌, ◌≤◌, List, ◌++◌, map, length};
 ghost use Rattle.std.specs.List.{flat_map};
+ghost use Rattle.octets.specs.Writing.{written};
 ghost use Rattle.graphs.specs.View.{node_view};
 ghost use Rattle.graph_reader.specs.Encoding.{two, length_bytes, target_bytes, ternary_bytes, range_bytes, sort_byte, pairs_from};
 ghost use Rattle.graph_writer.specs.Writing.{record_for};
-ghost use Rattle.graph_writer.specs.Parts.{written, place_byte, head_of, Counted, file_for};
+ghost use Rattle.graph_writer.specs.Parts.{place_byte, head_of, Counted, file_for};
 
 use graphs::graph::{Length, Node, Rows};
 use graphs::named::named;
@@ -128,7 +129,8 @@ fn put_rows<R: RowBytes>(rows: &[R], area: &mut [u8])
     requires { 10 * length rows.now ≤ length area.old }
     ensures { area.new ≡ written area.old 0 (flat_map R.said rows.now) }
 {
-    // By index and no `as_chunks_mut`, which was tried: behind that loan a proof knows the area's length and not its bytes.
+    // By index and no `as_chunks_mut`, which was tried: behind that loan a proof knows the area's
+    // length and not its bytes.
     for (k, row) in rows.iter().enumerate() {
         put(&mut area[10 * k..], &row.row_bytes());
     }

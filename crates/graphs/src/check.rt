@@ -50,9 +50,9 @@ fn check_lengths(table: &KindTable, graph: &Graph) -> Result<(), GraphFault>
     check_each(&LengthCheck { table }, graph)
 }
 
-// A check of one node at a time.
-// A trait and no closure: its ghost member names what a check tells. A function over a closure would take that as a
-// ghost argument, with a `requires` that each of the three calls has to meet.
+// A check of one node at a time. A trait and no closure: its ghost member names what a check tells. A
+// function over a closure would take that as a ghost argument, with a `requires` that each of the three
+// calls has to meet.
 trait NodeCheck {
     // What is told of node n.
     ghost told: { Self → ℕ → NodeView → Option GraphFault };

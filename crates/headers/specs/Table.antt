@@ -44,6 +44,10 @@ row_in t k = slice_index_or t.rows (kind_number k) (kind_row 0 [])
 abbrev pub minimum_in : KindTable → Kind → ℕ
 minimum_in t k = (row_in t k).minimum
 
+-- by the built-in table
+abbrev pub minimum : Kind → ℕ
+minimum = minimum_in standard_table
+
 -- where the kind's field of a number lies: none past the kind's list
 abbrev pub field_in : KindTable → Kind → ℕ → Option FieldPlace
 field_in t k n = cond (nat_lt n (row_in t k).field_count) (slice_get (row_in t k).fields n) None

@@ -1,4 +1,5 @@
-// Kinds of header and the parts of a packet: a kind's number, shortest length and fields, where a header lies, and its fields and the payload as parts of the packet itself.
+// Kinds of header and the parts of a packet: a kind's number, shortest length and fields, where a
+// header lies, and its fields and the payload as parts of the packet itself.
 
 #![tactic(auto)]
 

@@ -7,9 +7,10 @@ use crate::kinds::Kind;
 use crate::mark::Mark;
 use crate::table::KindTable;
 
-/// The field of the number of the header that the mark names, as the part of the packet where it lies; `Ok(None)` if the kind has no field of that number, wherever the mark lies.
-/// Refused if the mark's kind is over 10, or else if some of the field's own bytes lie outside the packet.
-/// The mark's node and length are not looked at.
+/// The field of the number of the header that the mark names, as the part of the packet where it lies;
+/// `Ok(None)` if the kind has no field of that number, wherever the mark lies. Refused if the mark's
+/// kind is over 10, or else if some of the field's own bytes lie outside the packet. The mark's node
+/// and length are not looked at.
 pub fn field<'a>(
     packet: &'a [u8],
     mark: &Mark,
@@ -35,7 +36,8 @@ pub fn field_in<'a>(
     };
     let from = usize::from(mark.offset) + usize::from(place.offset);
     let length = usize::from(place.length);
-    // By a test and no `get`, which was tried, here and in `payload`: what `get` hands out is not told to lie in the packet's own memory.
+    // By a test and no `get`, which was tried, here and in `payload`: what `get` hands out is not told
+    // to lie in the packet's own memory.
     if from + length > packet.len() {
         return Err(PartFault::FieldOutside);
     }

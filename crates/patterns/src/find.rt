@@ -1,4 +1,5 @@
-// The searches in a list of plain rows: one text for every sort of pattern. Rows that make no pattern are skipped.
+// The searches in a list of plain rows: one text for every sort of pattern. Rows that make no pattern
+// are skipped.
 ghost use Rattle.std.specs.Prelude.{◌≡◌, ◌<◌, length, take, IfSome};
 ghost use Rattle.patterns.specs.Finding.{row_fits, first_fit, row_covers, any_covers, covered, first_covered};
 ghost use Rattle.patterns.specs.Firsts.{First, FitsAt, CoveredAt};
@@ -21,7 +22,8 @@ pub fn first_fit<P: Pattern>(rows: &[P::Plain], key: P::Key) -> Option<usize>
     place_of_fit::<P>(rows, key)
 }
 
-// Apart from `first_fit`: with the clauses of both in one function, which was tried, the chain's proof does not close.
+// Apart from `first_fit`: with the clauses of both in one function, which was tried, the chain's proof
+// does not close.
 fn place_of_fit<P: Pattern>(rows: &[P::Plain], key: P::Key) -> Option<usize>
     ensures { result ≡ first_fit P.made P.fits key rows.now }
 {
@@ -50,7 +52,8 @@ fn row_covered<P: Pattern>(rows: &[P::Plain], i: usize, row: &P::Plain) -> bool
     P::make(row).is_some_and(|pattern| any_covers::<P>(&rows[0..i], &pattern))
 }
 
-/// The place of the first row that a row before it covers, so that it never decides. Where there is none, the answer is `None`.
+/// The place of the first row that a row before it covers, so that it never decides. Where there is
+/// none, the answer is `None`.
 pub fn first_covered<P: Pattern>(rows: &[P::Plain]) -> Option<usize>
     ensures is { result ≡ first_covered P.made P.covers rows.now }
     ensures first { First (CoveredAt P.keys P.made P.fits rows.now) result }

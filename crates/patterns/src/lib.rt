@@ -1,4 +1,5 @@
-// Ternary and range patterns behind one interface, the searches in lists of plain rows, and the split of a range into ternary blocks.
+// Ternary and range patterns behind one interface, the searches in lists of plain rows, and the split
+// of a range into ternary blocks.
 
 #![tactic(auto)]
 

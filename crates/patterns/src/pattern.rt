@@ -39,7 +39,8 @@ pub trait Pattern: Copy {
     fn covers(&self, other: &Self) -> bool
         ensures { result ≡ covers self.now other.now };
 
-    /// A key that fits. No call is refused. Free: which one is left open, as long as it is a key and fits.
+    /// A key that fits. No call is refused. Free: which one is left open, as long as it is a key and
+    /// fits.
     fn sample(&self) -> Self::Key
         ensures key { keys result }
         ensures fitting { fits self.now result ≡ true };

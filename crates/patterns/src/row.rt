@@ -1,4 +1,5 @@
-// Plain rows: the numbers as they were written down, and where a fitting key leads. Nothing is checked yet.
+// Plain rows: the numbers as they were written down, and where a fitting key leads. Nothing is checked
+// yet.
 
 /// Where a row leads: to the node of a number, to the end of the headers, or to a dropped packet.
 #[derive(Clone, Copy, PartialEq, Eq, Debug)]
@@ -8,7 +9,8 @@ pub enum Target {
     Dropped,
 }
 
-/// A row that looks at the bits of a 32-bit key under a mask. It makes a pattern if no value bit lies outside the mask.
+/// A row that looks at the bits of a 32-bit key under a mask. It makes a pattern if no value bit lies
+/// outside the mask.
 #[derive(Clone, Copy, PartialEq, Eq, Debug)]
 pub struct TernaryRow {
     pub value: u32,

@@ -54,8 +54,9 @@ fn block_at(low: u16, count: u32) -> Block
     }
 }
 
-/// Writes the blocks of the range from the front of `out`, and answers how many there are. No range is refused: thirty blocks are enough for each.
-/// From the low end it takes the largest block of 2^k numbers that begins at a multiple of 2^k and ends by high, then goes on with the rest.
+/// Writes the blocks of the range from the front of `out`, and answers how many there are. No range is
+/// refused: thirty blocks are enough for each. From the low end it takes the largest block of 2^k
+/// numbers that begins at a multiple of 2^k and ends by high, then goes on with the rest.
 pub fn split(span: &Span, out: &mut [Block; 30]) -> usize
     ensures count { result ≡ length (split_of span.now.low span.now.high) }
     ensures written { out.new ≡ split_of span.now.low span.now.high ++ drop result out.old }
@@ -66,7 +67,8 @@ pub fn split(span: &Span, out: &mut [Block; 30]) -> usize
 {
     let high = u32::from(span.high);
     let mut low = u32::from(span.low);
-    // The blocks are counted by hand, in an array: the loop ends with the range and not with the array, and a device has no heap.
+    // The blocks are counted by hand, in an array: the loop ends with the range and not with the array,
+    // and a device has no heap.
     let mut n = 0;
     while low <= high {
         let from = low as u16;

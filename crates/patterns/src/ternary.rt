@@ -2,7 +2,8 @@
 ghost use Rattle.std.specs.Prelude.{T};
 ghost use Rattle.patterns.specs.Sound.{ternary_ok};
 
-/// A value under a mask: a key fits if its bits under the mask are the value. No value bit lies outside the mask.
+/// A value under a mask: a key fits if its bits under the mask are the value. No value bit lies outside
+/// the mask.
 #[derive(Clone, Copy)]
 pub struct Ternary {
     pub value: u32,

@@ -1,6 +1,7 @@
 -- No fault before 9 applies to the sample, and it needs 13 rows.
 use Rattle.std.proofs.Common.{◌≡◌, min, Ok, refl, subst}
 use Rattle.refusals.specs.Least.{Least}
+use Rattle.headers.specs.Table.{minimum}
 use Rattle.graphs.specs.Refusals.{GraphApplies}
 use Rattle.graphs.specs.declared.fault.GraphFault.{GraphFault}
 use Rattle.graphs.proofs.Refused.{graph_lowest}
@@ -15,7 +16,6 @@ use Rattle.graph_reader.specs.Refusals.{FileApplies, Applies}
 use Rattle.graph_reader.proofs.Refused.{file_lowest}
 use Rattle.walks.specs.Plans.{store_count}
 use Rattle.walks.specs.Samples.{four_nodes}
-use Rattle.walks.specs.Worked.{minimum}
 use Rattle.plans.specs.declared.fault.PlanFault.{PlanFault}
 use Rattle.plans.specs.Chains.{chain_in}
 use Rattle.plans.specs.Refusals.{PlanApplies}

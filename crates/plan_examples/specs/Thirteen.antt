@@ -3,9 +3,9 @@ use Rattle.std.specs.Prelude.{◌≡◌, ℕ, List, ◌∷◌, replicate}
 use Rattle.refusals.specs.declared.refusal.Layer.TheVariants as layer
 use Rattle.refusals.specs.declared.refusal.Refusal.{Refusal}
 use Rattle.refusals.specs.Least.{Least}
+use Rattle.headers.specs.Table.{minimum}
 use Rattle.graph_reader.specs.Encoding.{encode}
 use Rattle.walks.specs.Samples.{four_nodes}
-use Rattle.walks.specs.Worked.{minimum}
 use Rattle.compiler.specs.declared.fault.LoadFault.{LoadFault}
 use Rattle.compiler.specs.declared.fault.LoadFault.TheVariants.{TooMany}
 use Rattle.compiler.specs.Faults.{of_load}

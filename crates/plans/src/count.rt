@@ -12,7 +12,8 @@ use graphs::graph::Graph;
 /// The most rows that are told apart.
 pub const MOST: u32 = 65535;
 
-// A graph and its chains are two arguments, as in `window`: `Checked` of a crate above says that both were checked.
+// A graph and its chains are two arguments, as in `window`: `Checked` of a crate above says that both
+// were checked.
 
 /// How many rows a store has to hold for graph and plan; 65,535 if they are more.
 pub fn row_count(graph: &Graph, chains: &Chains) -> u16

@@ -69,7 +69,8 @@ fn chains_in(count: u8, bytes: &[u8]) -> Result<Chains, PlanFault>
 {
     let mut plan = Chains::none();
     let (fours, _) = bytes.as_chunks::<4>();
-    // By place: of a loop over `iter_mut` zipped with the fours, which was tried, no invariant can name the chains.
+    // By place: of a loop over `iter_mut` zipped with the fours, which was tried, no invariant can name
+    // the chains.
     for (node, four) in fours.iter().enumerate() {
         let chain = Chain::from(*four);
         if !chain.is_right() {

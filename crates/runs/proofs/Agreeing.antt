@@ -3,6 +3,7 @@ use Rattle.std.proofs.Common.{◌≡◌, ℕ, cond, eqb, List, ◌∷◌, ◌++�
 use Rattle.refusals.specs.declared.refusal.Refusal.{Refusal}
 use Rattle.refusals.specs.Least.{rank, NotAfter, Least}
 use Rattle.headers.specs.declared.mark.Mark.{Mark}
+use Rattle.headers.specs.Table.{minimum}
 use Rattle.graphs.specs.View.{NodeView}
 use Rattle.graph_reader.specs.declared.fault.ReadFault.{ReadFault}
 use Rattle.graph_reader.specs.Reading.{reading as read_graph}
@@ -14,7 +15,7 @@ use Rattle.taps.specs.declared.fault.PacketFault.{PacketFault}
 use Rattle.taps.specs.declared.fault.PacketFault.TheVariants.{LongPacket, FewMarks, NothingLoaded}
 use Rattle.taps.specs.Faults.{of_packet, PacketApplies}
 use Rattle.taps.specs.Counts.{counted, report_of}
-use Rattle.taps.specs.Plain.{minimum, GraphAndPlan, PlainTap, fresh, Tells, PlainLoad, PlainRead}
+use Rattle.taps.specs.Plain.{GraphAndPlan, PlainTap, fresh, Tells, PlainLoad, PlainRead}
 use Rattle.taps.specs.Plain.PlainLoad.{refused as load_refused, accepted as load_accepted}
 use Rattle.taps.specs.Plain.PlainRead.{refused as read_refused, walked as read_walked}
 use Rattle.runs.specs.declared.calls.Call.{Call}

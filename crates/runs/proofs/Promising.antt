@@ -4,6 +4,7 @@ use Rattle.std.proofs.Math.Seq.{take-append_seam}
 use Rattle.std.specs.List.{AllByRecursion}
 use Rattle.refusals.specs.Least.{Answers}
 use Rattle.headers.specs.declared.mark.Mark.{Mark}
+use Rattle.headers.specs.Table.{minimum}
 use Rattle.stores.specs.Meaning.{Meaning}
 use Rattle.compiler.specs.declared.fault.LoadFault.{LoadFault}
 use Rattle.compiler.specs.Faults.{of_load}
@@ -13,7 +14,7 @@ use Rattle.readers.specs.Reading.{after_questions}
 use Rattle.taps.specs.declared.fault.PacketFault.{PacketFault}
 use Rattle.taps.specs.declared.tap.Tap.{Tap}
 use Rattle.taps.specs.Counts.{counted}
-use Rattle.taps.specs.Plain.{minimum, PlainTap, PlainLoad, PlainRead, fresh}
+use Rattle.taps.specs.Plain.{PlainTap, PlainLoad, PlainRead, fresh}
 use Rattle.taps.specs.Plain.PlainLoad.{refused as load_refused, accepted as load_accepted}
 use Rattle.taps.specs.Plain.PlainRead.{refused as read_refused, walked as read_walked}
 use Rattle.taps.proofs.Reading.{capacity_kept}

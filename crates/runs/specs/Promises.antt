@@ -2,13 +2,14 @@
 use Rattle.std.specs.Prelude.{◌≡◌, ℕ, zero, ◌+◌, ◌≤◌, List, [], ◌∷◌, take, Ok, Err}
 use Rattle.std.specs.List.{AllByRecursion}
 use Rattle.refusals.specs.Least.{Answers}
+use Rattle.headers.specs.Table.{minimum}
 use Rattle.stores.specs.Meaning.{Meaning}
 use Rattle.compiler.specs.Faults.{of_load}
 use Rattle.compiler.specs.Loading.{LoadApplies}
 use Rattle.readers.specs.Reading.{after_questions}
 use Rattle.taps.specs.declared.tap.Tap.{Tap}
 use Rattle.taps.specs.Counts.{Counts, no_counts, counted, report_of}
-use Rattle.taps.specs.Plain.{minimum, fresh}
+use Rattle.taps.specs.Plain.{fresh}
 use Rattle.taps.specs.Following.{Follows, questions_in}
 use Rattle.runs.specs.declared.calls.Call.{Call}
 use Rattle.runs.specs.declared.calls.Call.TheVariants.{Load, Read, Report}

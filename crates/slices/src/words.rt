@@ -1,12 +1,13 @@
 // The words of a sliced store. Places 0 and 1 are the half bytes of the state, 2 to 17 those of the
-// key, highest first. Word 16 * place + value has a bit for each row: whether it accepts that value there.
+// key, highest first. Word 16 * place + value has a bit for each row: whether it accepts that value
+// there.
 ghost use Rattle.std.specs.Prelude.{◌≡◌, ◌^◌, ◌<◌};
 ghost use Rattle.slices.specs.Words.{half_of, accepts, with_bit, lowest_bit};
 
 use stores::question::Row;
 
-// The half byte at a place of a state and a key. That a place is below 18 is asked where one is used: it is a number
-// of a loop and no value that is kept.
+// The half byte at a place of a state and a key. That a place is below 18 is asked where one is used:
+// it is a number of a loop and no value that is kept.
 pub(crate) fn half(state: u8, key: u64, place: usize) -> usize
     requires { place < 18 }
     ensures is { result ≡ half_of state key place }

@@ -1,4 +1,5 @@
-// tapctl: graph files, plans, stores and taps at the command line. `tapctl` alone prints how it is called.
+// tapctl: graph files, plans, stores and taps at the command line. `tapctl` alone prints how it is
+// called.
 
 #![tactic(auto)]
 

@@ -83,9 +83,9 @@ impl<'a> Packets<'a> {
         Ok(())
     }
 
-    /// Tells of each packet, and why one of a capture's is refused, under a heading for each; in a summary
-    /// only one that is refused has a heading. Refused as the file's one packet is; fails where the
-    /// capture is cut, once what came before is told. The standard error tells how far it has come.
+    /// Tells of each packet, and why one of a capture's is refused, under a heading for each; in a
+    /// summary only one that is refused has a heading. Refused as the file's one packet is; fails where
+    /// the capture is cut, once what came before is told. The standard error tells how far it has come.
     pub fn tell_each<'f>(
         &self,
         rt: &(impl Print + Eprint + AllocGlobal),

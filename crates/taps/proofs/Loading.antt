@@ -1,6 +1,7 @@
 -- A load follows the plain tap's.
 use Rattle.std.proofs.Common.{◌≡◌, ℕ, ◌<◌, List, Some, Ok, Err, sym, refl, ap, subst, slice_index}
 use Rattle.refusals.specs.Least.{Least}
+use Rattle.headers.specs.Table.{minimum}
 use Rattle.stores.specs.Meaning.{Meaning}
 use Rattle.plans.specs.Chains.{chain_in}
 use Rattle.compiler.specs.declared.fault.LoadFault.{LoadFault}
@@ -8,7 +9,7 @@ use Rattle.compiler.specs.declared.program.Program.{Program}
 use Rattle.compiler.specs.Faults.{of_load}
 use Rattle.compiler.specs.Loading.{LoadApplies, Loaded}
 use Rattle.taps.specs.declared.tap.Tap.{Tap}
-use Rattle.taps.specs.Plain.{minimum, GraphAndPlan, PlainTap, loading}
+use Rattle.taps.specs.Plain.{GraphAndPlan, PlainTap, loading}
 use Rattle.taps.specs.Plain.PlainLoad.{refused, accepted}
 use Rattle.taps.specs.Following.{LoadedAs, Follows, LoadFollows}
 

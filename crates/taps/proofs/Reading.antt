@@ -4,6 +4,7 @@ use Rattle.refusals.specs.Least.{Least}
 use Rattle.std.proofs.Math.Seq.{take-append_seam}
 use Rattle.headers.specs.declared.mark.Mark.{Mark}
 use Rattle.headers.specs.declared.kinds.Kind.{Kind}
+use Rattle.headers.specs.Table.{minimum}
 use Rattle.graphs.specs.View.{NodeView}
 use Rattle.walks.specs.Rows.{Plan}
 use Rattle.walks.specs.Turning.{read_by}
@@ -20,7 +21,7 @@ use Rattle.taps.specs.declared.tap.Tap.{Tap}
 use Rattle.taps.specs.Faults.{of_packet, PacketApplies}
 use Rattle.taps.specs.Counts.{Counts, report_of, counted}
 use Rattle.taps.specs.Held.{report_in, SameButCounts}
-use Rattle.taps.specs.Plain.{minimum, GraphAndPlan, PlainTap, counting, Tells, PlainRead}
+use Rattle.taps.specs.Plain.{GraphAndPlan, PlainTap, counting, Tells, PlainRead}
 use Rattle.taps.specs.Plain.PlainRead.{refused, walked}
 use Rattle.taps.specs.Following.{LoadedAs, Follows, ReadFollows}
 use Rattle.taps.proofs.Refused.{none_applies}

@@ -1,6 +1,7 @@
 -- When a tap follows a plain one, and what each call promises.
 use Rattle.std.specs.Prelude.{◌≡◌, ℕ, Bool, List, Some, None, Ok, Err, Option, Result}
 use Rattle.headers.specs.declared.mark.Mark.{Mark}
+use Rattle.headers.specs.Table.{minimum}
 use Rattle.graph_reader.specs.Decoding.{nodes_in}
 use Rattle.stores.specs.declared.question.Question.{Question}
 use Rattle.stores.specs.Meaning.{Meaning}
@@ -15,7 +16,7 @@ use Rattle.taps.specs.declared.fault.PacketFault.{PacketFault}
 use Rattle.taps.specs.declared.tap.Tap.{Tap}
 use Rattle.taps.specs.Counts.{report_of}
 use Rattle.taps.specs.Held.{report_in}
-use Rattle.taps.specs.Plain.{minimum, GraphAndPlan, PlainTap, PlainLoad, PlainRead}
+use Rattle.taps.specs.Plain.{GraphAndPlan, PlainTap, PlainLoad, PlainRead}
 
 -- nothing is loaded in either, or the program stands for the graph and the plan, and the store's rows are theirs in order
 abbrev pub LoadedAs : Option GraphAndPlan → Option Program → List (Question → Bool) → Type 0

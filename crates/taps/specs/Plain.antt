@@ -3,7 +3,7 @@ use Rattle.std.specs.Prelude.{◌≡◌, ℕ, ◌≤◌, List, [], ◌++◌, len
 use Rattle.refusals.specs.Least.{Least}
 use Rattle.headers.specs.declared.kinds.Kind.{Kind}
 use Rattle.headers.specs.declared.mark.Mark.{Mark}
-use Rattle.headers.specs.Table.{minimum_in, standard_table}
+use Rattle.headers.specs.Table.{minimum}
 use Rattle.graphs.specs.View.{NodeView}
 use Rattle.graph_reader.specs.Reading.{reading}
 use Rattle.walks.specs.declared.outcome.Outcome.{Outcome}
@@ -20,10 +20,6 @@ use Rattle.readers.specs.declared.read.Reading.{Reading}
 use Rattle.taps.specs.declared.fault.PacketFault.{PacketFault}
 use Rattle.taps.specs.Faults.{of_packet, PacketApplies}
 use Rattle.taps.specs.Counts.{Counts, no_counts, counted}
-
--- the fewest bytes of each kind
-abbrev pub minimum : Kind → ℕ
-minimum = minimum_in standard_table
 
 -- a graph that reading accepts, and a plan that keeps its rules
 pub record GraphAndPlan : Type 0 where

@@ -46,8 +46,8 @@ impl<'a> HeaderAt<'a> {
         }
     }
 
-    /// Whether each of the places lies in the packet. Nothing is refused.
-    pub fn holds(&self, places: &[u8]) -> bool
+    // Whether each of the places lies in the packet.
+    fn holds(&self, places: &[u8]) -> bool
         ensures { result ≡ held self.now.packet.now self.now.at places.now }
     {
         places.iter().all(|place| self.has(*place))
@@ -119,8 +119,8 @@ impl<'a> HeaderAt<'a> {
     fn looked_up(&self, places: &[u8], i: usize) -> u8
         ensures { result ≡ slice_index (map (λ place. byte_at self.now.packet.now (self.now.at + place)) places.now) i }
     {
-        // Tried: of a closure over the header neither `map` nor `map_or` promises what it answers, so the
-        // two cases stand here.
+        // Tried: of a closure over the header neither `map` nor `map_or` promises what it answers, so
+        // the two cases stand here.
         match places.get(i) {
             Some(place) => self.byte(*place),
             None => 0,

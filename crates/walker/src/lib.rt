@@ -1,4 +1,5 @@
-// The plain walk as code: the header at an offset of a packet, and a packet read one header at a time, straight from the graph.
+// The plain walk as code: the header at an offset of a packet, and a packet read one header at a time,
+// straight from the graph.
 
 #![tactic(auto)]
 

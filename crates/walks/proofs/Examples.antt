@@ -2,6 +2,7 @@
 use Rattle.std.proofs.Common.{◌≡◌, ℕ, zero, suc, ◌<◌, Bool, true, ◌&&◌, ltb, List, [], ◌∷◌, length, get_or, take, refl, subst, arith}
 use Rattle.std.specs.List.{AllByRecursion}
 use Rattle.std.proofs.lemmas.Bool.{and_parts, ltb-true}
+use Rattle.headers.specs.Table.{minimum}
 use Rattle.graph_reader.specs.Encoding.{encode}
 use Rattle.graph_reader.specs.Records.{right}
 use Rattle.graph_reader.specs.Files.{pair_right}
@@ -15,7 +16,7 @@ use Rattle.walks.specs.Turning.{Trace, read_by}
 use Rattle.walks.specs.Theorems.{Accepted}
 use Rattle.walks.specs.Samples.{four_nodes}
 use Rattle.walks.specs.Turns.{Reads}
-use Rattle.walks.specs.Worked.{minimum, no_chains, tag_in_one_look, ipv6, four_marks, Example, example, examples, ReadWith, Stands, no_catch_all}
+use Rattle.walks.specs.Worked.{no_chains, tag_in_one_look, ipv6, four_marks, Example, example, examples, ReadWith, Stands, no_catch_all}
 use Rattle.walks.proofs.Sound.{Sound}
 use Rattle.walks.proofs.Accepted.{accepted_sound}
 use Rattle.walks.proofs.Whole.{reads_plainly}

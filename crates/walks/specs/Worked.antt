@@ -5,7 +5,7 @@ use Rattle.headers.specs.declared.kinds.Kind.{Kind}
 use Rattle.headers.specs.declared.kinds.Kind.TheVariants.{Ethernet, Vlan, Ipv4, Tcp}
 use Rattle.headers.specs.declared.mark.Mark.{Mark}
 use Rattle.headers.specs.Kinds.{kind_number}
-use Rattle.headers.specs.Table.{minimum_in, standard_table}
+use Rattle.headers.specs.Table.{minimum}
 use Rattle.patterns.specs.declared.row.Target.{Target}
 use Rattle.patterns.specs.declared.row.Target.TheVariants as to
 use Rattle.patterns.specs.Worked.{BelowEtherTypes, WidestRange}
@@ -20,10 +20,6 @@ use Rattle.walks.specs.Plans.{Lawful, window, store_count}
 use Rattle.walks.specs.Turns.{Reads}
 use Rattle.walks.specs.Theorems.{Accepted}
 use Rattle.walks.specs.Samples.{ethernet_with, tag_or_ipv4, behind_ethernet, four_nodes}
-
--- the kinds' built-in minimums
-abbrev pub minimum : Kind → ℕ
-minimum = minimum_in standard_table
 
 -- the plan without chains, and the one in which node 0 has the chain 1
 abbrev pub no_chains : Plan

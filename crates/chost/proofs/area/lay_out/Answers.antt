@@ -1,5 +1,5 @@
 use Rattle.std.proofs.Common.{◌+◌, ◌*◌, take, ap, ◌∙◌}
-use Rattle.chost.specs.Area.{written}
+use Rattle.octets.specs.Writing.{written}
 use Rattle.chost.proofs.Laying.{more_so_far}
 use Rattle.chost.proofs.area.lay_out.Goals as goal
 

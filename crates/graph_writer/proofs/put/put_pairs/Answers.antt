@@ -1,8 +1,8 @@
 use Rattle.std.proofs.Common.{◌≡◌, ◌+◌, ◌*◌, ◌++◌, map, take, ap, ◌∙◌, sym, arith}
+use Rattle.octets.specs.Writing.{written}
 use Rattle.graphs.specs.View.{no_node, node_view}
 use Rattle.graph_reader.specs.Encoding.{two, record_length, pairs_from}
 use Rattle.graph_writer.specs.Writing.{node_of}
-use Rattle.graph_writer.specs.Parts.{written}
 use Rattle.graph_writer.proofs.Written.{part_behind}
 use Rattle.graph_writer.proofs.Putting.{pairs_so_far, pairs_more, sizes_more}
 use Rattle.graph_writer.proofs.put.put_pairs.Goals as goal

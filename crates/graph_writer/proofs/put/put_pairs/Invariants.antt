@@ -1,7 +1,7 @@
 use Rattle.std.proofs.Common.{◌≡◌, ◌+◌, ◌*◌, ◌≤◌, map, take}
+use Rattle.octets.specs.Writing.{written}
 use Rattle.graphs.specs.View.{node_view}
 use Rattle.graph_reader.specs.Encoding.{pairs_from}
-use Rattle.graph_writer.specs.Parts.{written}
 use Rattle.graph_reader.proofs.Places.{sizes}
 use Rattle.graph_writer.proofs.put.put_pairs.Given as goal
 

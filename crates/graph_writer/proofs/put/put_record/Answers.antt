@@ -1,7 +1,8 @@
 use Rattle.std.proofs.Common.{◌≡◌, ◌+◌, ◌*◌, ◌++◌, length, sym, ap, ◌∙◌, arith}
+use Rattle.octets.specs.Writing.{written}
 use Rattle.graphs.specs.View.{ternary_rows, range_rows, rows_view, node_view}
 use Rattle.graph_reader.specs.Encoding.{row_bytes}
-use Rattle.graph_writer.specs.Parts.{written, head_of, bytes_for}
+use Rattle.graph_writer.specs.Parts.{head_of, bytes_for}
 use Rattle.graph_writer.proofs.Written.{part_behind}
 use Rattle.graph_writer.proofs.Rowing.{bytes_length, record_for_lem, head_length}
 use Rattle.graph_writer.proofs.put.put_record.Goals.{in-Ternary, in-Range}

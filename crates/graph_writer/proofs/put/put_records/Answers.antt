@@ -1,9 +1,9 @@
 use Rattle.std.proofs.Common.{◌≡◌, ◌+◌, ◌++◌, length, take, ap, ◌∙◌, arith}
 use Rattle.std.specs.List.{flat_map}
 use Rattle.std.proofs.lemmas.List.{length-append}
+use Rattle.octets.specs.Writing.{written}
 use Rattle.graphs.specs.View.{no_node}
 use Rattle.graph_writer.specs.Writing.{record_for, node_of}
-use Rattle.graph_writer.specs.Parts.{written}
 use Rattle.graph_writer.proofs.Written.{part_behind}
 use Rattle.graph_writer.proofs.Putting.{parts_more}
 use Rattle.graph_writer.proofs.put.put_records.Goals as goal

@@ -1,7 +1,7 @@
 use Rattle.std.proofs.Common.{◌≡◌, ◌*◌, ◌≤◌, length, take}
 use Rattle.std.specs.List.{flat_map}
+use Rattle.octets.specs.Writing.{written}
 use Rattle.graph_writer.specs.Writing.{record_for}
-use Rattle.graph_writer.specs.Parts.{written}
 use Rattle.graph_writer.proofs.put.put_records.Given as goal
 
 abbrev pub invariant-loop-node : goal.invariant-loop-node

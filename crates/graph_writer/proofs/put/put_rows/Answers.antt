@@ -1,7 +1,7 @@
 use Rattle.std.proofs.Common.{◌≡◌, ◌+◌, ◌*◌, ◌++◌, length, take, sym, ap, ◌∙◌, arith, rules}
 use Rattle.std.specs.List.{flat_map}
 use Rattle.std.proofs.lemmas.List.{length-append}
-use Rattle.graph_writer.specs.Parts.{written}
+use Rattle.octets.specs.Writing.{written}
 use Rattle.graph_writer.proofs.Written.{part_behind}
 use Rattle.graph_writer.proofs.Putting.{parts_more}
 use Rattle.graph_writer.proofs.put.put_rows.Goals as goal

@@ -1,6 +1,6 @@
 use Rattle.std.proofs.Common.{◌≡◌, ◌*◌, length, take}
 use Rattle.std.specs.List.{flat_map}
-use Rattle.graph_writer.specs.Parts.{written}
+use Rattle.octets.specs.Writing.{written}
 use Rattle.graph_writer.proofs.put.put_rows.Given as goal
 
 abbrev pub invariant-loop-k : goal.invariant-loop-k

@@ -1,11 +1,12 @@
 use Rattle.std.proofs.Common.{◌≡◌, map, length, Some, None, Ok, Err, sym, ap, ◌∙◌, subst, arith}
 use Rattle.std.proofs.lemmas.Result.{err_from_is_err_and}
+use Rattle.octets.specs.Writing.{written}
 use Rattle.refusals.specs.Searching.{unless_fault}
 use Rattle.headers.specs.Table.{minimum_in}
 use Rattle.graphs.specs.View.{node_view, graph_view}
 use Rattle.graph_reader.specs.Encoding.{encode}
 use Rattle.graph_writer.specs.Writing.{Standing, write_fault, area_after}
-use Rattle.graph_writer.specs.Parts.{written, file_for}
+use Rattle.graph_writer.specs.Parts.{file_for}
 use Rattle.graph_writer.specs.Refusals.{ReadsBack}
 use Rattle.graph_writer.proofs.Putting.{file_encodes, written_all}
 use Rattle.graph_writer.proofs.Refused.{answered}
