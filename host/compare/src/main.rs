@@ -41,7 +41,7 @@ fn main() -> ExitCode {
     }
 }
 
-/// The graph files, the seed and the number of cases that the words name, or those that stand for words left out.
+/// Reads the command line: a folder of graph files, a seed, and how many calls to try. Each may be left out.
 fn wanted(words: &[String]) -> Result<(Vec<Vec<u8>>, u64, usize), String> {
     if words.len() > 3 {
         return Err("too many words".to_string());
