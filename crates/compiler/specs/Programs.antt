@@ -20,7 +20,7 @@ head_at p n = slice_index_or (held p.heads) n p.blank
 
 -- a node without its rows, as a program has it and as a graph does
 abbrev pub head_view : Head → NodeView
-head_view h = record { kind = h.kind; len = h.length; places = take h.own (held h.lookups); rows = ternary_rows [] }
+head_view h = record { kind = h.kind; len = h.length; places = take h.own_count (held h.lookups); rows = ternary_rows [] }
 
 abbrev pub bare : NodeView → NodeView
 bare v = record { kind = v.kind; len = v.len; places = v.places; rows = ternary_rows [] }
@@ -39,7 +39,7 @@ module _ (minimum : Kind → ℕ) where
     pub window : h.window ≡ window g n (chain n)
     pub lookups : held h.lookups ≡ looked_up g n (chain n)
     pub needs : h.needs ≡ reach (reads (node_at g n))
-    pub least : h.least ≡ minimum (node_at g n).kind
+    pub least : h.minimum ≡ minimum (node_at g n).kind
 
   -- the program stands for graph and plan: as many heads, and every head, past the last node that of no node; and the actions of
   -- the rows in order

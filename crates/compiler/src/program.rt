@@ -28,8 +28,7 @@ pub const CHAIN_BASE: u8 = 32;
 /// What a reader keeps of a node: its kind and length rule; its chain, and the bytes that both take
 /// from a packet; the places of the lookup bytes of both, counted from the node's start, the node's own
 /// first, and how many of them are its own; the fewest bytes that hold all that a step at the node
-/// reads; and the fewest that a header of its kind has. So a read works out nothing that is known at
-/// load.
+/// reads; and the fewest that a header of its kind has. So a read finds none of these out anew.
 #[derive(Clone, Copy)]
 pub struct Head {
     pub kind: Kind,
@@ -37,9 +36,9 @@ pub struct Head {
     pub chain: Chain,
     pub window: u16,
     pub lookups: Few<u16, LOOKUPS>,
-    pub own: u8,
+    pub own_count: u8,
     pub needs: u16,
-    pub least: u8,
+    pub minimum: u8,
 }
 
 /// What a reader keeps of a graph and a plan: the nodes, each without its rows, what stands for a node
@@ -80,9 +79,9 @@ impl Head {
             chain: Chain::none(),
             window: 0,
             lookups: Few::new(0),
-            own: 0,
+            own_count: 0,
             needs: 0,
-            least: table.minimum(kind),
+            minimum: table.minimum(kind),
         }
     }
 
@@ -90,7 +89,7 @@ impl Head {
     pub fn own_lookups(&self) -> &[u16]
         ensures { result.now ≡ (head_view self.now).places }
     {
-        named(self.lookups.as_slice(), self.own)
+        named(self.lookups.as_slice(), self.own_count)
     }
 
     // Node n of a graph, with its chain.
@@ -110,9 +109,9 @@ impl Head {
             chain,
             window: window(graph, node, &chain),
             lookups,
-            own: here.lookup().len() as u8,
+            own_count: here.lookup().len() as u8,
             needs: needs(&here),
-            least: table.minimum(here.kind),
+            minimum: table.minimum(here.kind),
         }
     }
 }

@@ -1,5 +1,5 @@
 -- Lookup bytes, one behind the other: those of a chain lie where a program says.
-use Rattle.std.proofs.Common.{◌≡◌, ℕ, ◌+◌, ◌<◌, List, [], ◌∷◌, ◌++◌, map, length, get_or, take, refl, sym, ap, ap₂, ◌∙◌, subst, arith}
+use Rattle.std.proofs.Common.{◌≡◌, ℕ, ◌+◌, ◌<◌, List, [], ◌∷◌, ◌++◌, map, length, get_or, take, refl, sym, ap, ◌∙◌, subst}
 use Rattle.std.proofs.lemmas.List.{map-append, map_more}
 use Rattle.graphs.specs.View.{NodeView, node_at}
 use Rattle.walks.specs.Bytes.{byte_at}
@@ -7,6 +7,7 @@ use Rattle.walks.specs.Walk.{past, key_at}
 use Rattle.walks.specs.Plans.{AllFixed, fixed_size}
 use Rattle.walks.specs.Turns.{keys_at}
 use Rattle.compiler.specs.Programs.{looked_up}
+use Rattle.compiler.proofs.Looking.{further}
 use Rattle.readers.specs.declared.key.Key.{Key}
 use Rattle.readers.specs.Headers.{bytes_at}
 use Rattle.readers.specs.Keys.{Spells}
@@ -20,11 +21,6 @@ looked_more f places i h byte is now new so_far push =
     subst (Spells new) byte_more (push (map f (take i places)) so_far)
 
 module _ (p : List ℕ) where
-  -- so many bytes further on
-  further : (at n : ℕ) (xs : List ℕ) → bytes_at p at (map (λ i. n + i) xs) ≡ bytes_at p (at + n) xs
-  further at n [] = refl
-  further at n (x ∷ xs) = let e : at + (n + x) ≡ (at + n) + x = omega arith in ap₂ (λ i ys. byte_at p i ∷ ys) e (further at n xs)
-
   -- the lookup bytes of a node and the nodes behind it, which have fixed lengths
   pub keys_looked : (g : List NodeView) (cs : List ℕ) (n at : ℕ) → AllFixed g n cs → bytes_at p at (looked_up g n cs) ≡ keys_at g p n cs at
   keys_looked g [] n at f = refl
@@ -32,4 +28,4 @@ module _ (p : List ℕ) where
       let size = fixed_size (node_at g n).len in
       let rest = looked_up g c cs in
       map-append (λ i. byte_at p (at + i)) (node_at g n).places (map (λ i. size + i) rest)
-      ∙ ap (λ ks. key_at g p n at ++ ks) (further at size rest ∙ ap (λ s. bytes_at p (at + s) rest) (sym (fixed_is g p n at f.0)) ∙ keys_looked g cs c (past g p n at) f.1)
+      ∙ ap (λ ks. key_at g p n at ++ ks) (further (byte_at p) at size rest ∙ ap (λ s. bytes_at p (at + s) rest) (sym (fixed_is g p n at f.0)) ∙ keys_looked g cs c (past g p n at) f.1)

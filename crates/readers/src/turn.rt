@@ -3,7 +3,7 @@ ghost use Rattle.std.specs.Prelude.{◌≡◌, ℕ, ◌+◌, min, List, ◌∷�
 ghost use Rattle.refusals.specs.Searching.{fault_of};
 ghost use Rattle.plans.specs.Chains.{nodes_of};
 ghost use Rattle.walks.specs.Outcomes.{outcome};
-ghost use Rattle.walks.specs.Bytes.{byte_at, spelled_in};
+ghost use Rattle.walks.specs.Bytes.{spelled_in};
 ghost use Rattle.walks.specs.Rows.{key_width, question};
 ghost use Rattle.walker.specs.Headers.{refusal_where};
 ghost use Rattle.readers.specs.Headers.{mark_by, bytes_at, end_of, marks_by, marks_left};
@@ -15,7 +15,6 @@ use crate::key::Key;
 use compiler::program::{CHAIN_BASE, Head, Program};
 use graphs::named::named;
 use headers::mark::Mark;
-use octets::read::byte_at;
 use stores::question::Question;
 use stores::state::State;
 use walker::header::HeaderAt;
@@ -69,17 +68,24 @@ impl<'a> Turn<'a> {
 
     // The three checks of the header, by what the program says of its node.
     fn check(&self, head: &Head) -> Result<(), Ending>
-        ensures { fault_of result ≡ refusal_where (nat_le (self.now.at + head.now.needs) (length self.now.packet.now)) self.now.packet.now self.now.at head.now.least head.now.length }
+        ensures { fault_of result ≡ refusal_where (nat_le (self.now.at + head.now.needs) (length self.now.packet.now)) self.now.packet.now self.now.at head.now.minimum head.now.length }
     {
         if !self.has(head.needs) {
             return Err(Ending::Cut);
         }
-        let header = HeaderAt {
+        self.header().check_size(head.minimum, head.length)?;
+        Ok(())
+    }
+
+    // The packet from the turn's offset on.
+    fn header(&self) -> HeaderAt<'a>
+        ensures packet { result.packet.now ≡ self.now.packet.now }
+        ensures at { result.at ≡ self.now.at }
+    {
+        HeaderAt {
             packet: self.packet,
             at: self.at,
-        };
-        header.check_size(head.least, head.length)?;
-        Ok(())
+        }
     }
 
     // Whether the packet has so many bytes left.
@@ -125,18 +131,12 @@ impl<'a> Turn<'a> {
     fn key(&self, lookups: &[u16]) -> u64
         ensures { result ≡ spelled_in key_width (bytes_at self.now.packet.now self.now.at lookups.now) }
     {
+        let header = self.header();
         let mut key = Key::new();
         for place in lookups {
-            key.push(self.byte(*place));
+            key.push(header.byte(*place));
         }
         key.number
-    }
-
-    // The byte at a place from the header's start on; 0 past the packet's end.
-    fn byte(&self, place: u16) -> u8
-        ensures { result ≡ byte_at self.now.packet.now (self.now.at + place) }
-    {
-        byte_at(self.packet, self.at as usize + usize::from(place))
     }
 
     /// Marks the headers that an action passes, that of the node and as many of those behind it: the

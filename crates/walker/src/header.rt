@@ -21,7 +21,7 @@ pub struct HeaderAt<'a> {
 impl<'a> HeaderAt<'a> {
     /// The byte at a place of the header. A place past the packet's end is not refused: its byte
     /// is 0.
-    pub fn byte(&self, place: u8) -> u8
+    pub fn byte(&self, place: u16) -> u8
         ensures { result ≡ byte_at self.now.packet.now (self.now.at + place) }
     {
         byte_at(self.packet, self.at as usize + usize::from(place))
@@ -41,8 +41,10 @@ impl<'a> HeaderAt<'a> {
                 shift,
                 unit,
                 base,
-            } => u32::from(base)
-                + u32::from(unit) * u32::from(shifted(self.byte(place) & mask, shift)),
+            } => {
+                let count = shifted(self.byte(u16::from(place)) & mask, shift);
+                u32::from(base) + u32::from(unit) * u32::from(count)
+            }
         }
     }
 
@@ -122,7 +124,7 @@ impl<'a> HeaderAt<'a> {
         // Tried: of a closure over the header neither `map` nor `map_or` promises what it answers, so
         // the two cases stand here.
         match places.get(i) {
-            Some(place) => self.byte(*place),
+            Some(place) => self.byte(u16::from(*place)),
             None => 0,
         }
     }

@@ -22,7 +22,7 @@ returns-in-Err c = λ minimum g chain stands law near few.
     let head = head_stands g self.packet.now minimum self.program.now chain stands self.node here c.head_of-head.ensures in
     ends_as minimum g chain self.program.now stands self.packet.now self.node self.at here.window head.window
     (nodes_of here.chain) head.behind (sym c.in_one_look.ensures ∙ c.if-in_one_look.false)
-    here.length here.needs here.least (ap (λ v. v.len) head.node) head.needs head.least near
+    here.length here.needs here.minimum (ap (λ v. v.len) head.node) head.needs head.least near
     c.in-Err.ending c.in-Err.ensures (omega (arith, near, few)) c.stopped.result c.stopped.ensures
 
 pub returns-in-Ok : goal.returns-in-Ok
@@ -32,6 +32,6 @@ returns-in-Ok c = λ minimum g chain stands law near few.
     let head = head_stands g self.packet.now minimum self.program.now chain stands self.node here c.head_of-head.ensures in
     asks_alone minimum g chain self.program.now stands self.packet.now self.node self.at here.window head.window
     (nodes_of here.chain) head.behind (sym c.in_one_look.ensures ∙ c.if-in_one_look.false)
-    here.length here.needs here.least (ap (λ v. v.len) head.node) head.needs head.least near
+    here.length here.needs here.minimum (ap (λ v. v.len) head.node) head.needs head.least near
     c.in-Ok.ensures c.asked-in-Ok.result.question c.own_lookups.result.now c.asked-in-Ok.result.behind.now
     (c.own_lookups.ensures ∙ ap (λ v. v.places) head.node) c.asked-in-Ok.ensures.behind c.asked-in-Ok.ensures.question
