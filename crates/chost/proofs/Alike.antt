@@ -1,9 +1,12 @@
 -- What the plain tap answers is one.
 use Rattle.std.specs.List.{flat_map}
-use Rattle.std.proofs.Common.{◌≡◌, ℕ, List, ◌++◌, length, Some, Ok, Err, Option, Result, sym, refl, ap, ◌∙◌, ap₂, inl, inr, arith}
-use Rattle.std.proofs.lemmas.List.{take-append-le}
+use Rattle.std.proofs.Common.{◌≡◌, ℕ, ◌≤◌, List, ◌++◌, length, take, drop, Some, Ok, Err, Option, Result, sym, refl, ap, ◌∙◌, ap₂, arith}
+use Rattle.std.proofs.lemmas.List.{take-append-le, length-take, take_all}
+use Rattle.std.proofs.Math.Seq.{take-append_seam}
+use Rattle.stores.specs.declared.question.Question.{Question}
+use Rattle.taps.proofs.Reading.{one_telling}
 use Rattle.refusals.specs.declared.refusal.Refusal.{Refusal}
-use Rattle.refusals.specs.Least.{NotAfter, Least}
+use Rattle.refusals.proofs.Ranking.{SamePlace, same_place, least_same}
 use Rattle.headers.specs.declared.mark.Mark.{Mark}
 use Rattle.compiler.specs.declared.fault.LoadFault.{LoadFault}
 use Rattle.compiler.specs.Faults.{of_load}
@@ -11,47 +14,42 @@ use Rattle.readers.specs.declared.read.Reading.{Reading}
 use Rattle.taps.specs.declared.fault.PacketFault.{PacketFault}
 use Rattle.taps.specs.declared.fault.PacketFault.TheVariants.{LongPacket, FewMarks, NothingLoaded}
 use Rattle.taps.specs.Faults.{of_packet, PacketApplies}
-use Rattle.taps.specs.Plain.{GraphAndPlan, PlainTap, fresh, PlainLoad, PlainRead}
-use Rattle.taps.specs.Plain.PlainLoad.{refused, accepted}
+use Rattle.taps.specs.Plain.{GraphAndPlan, PlainTap, fresh, said_by, PlainLoad, PlainRead}
 use Rattle.taps.specs.Plain.PlainRead.{refused as read_refused, walked as read_walked}
 use Rattle.chost.specs.Number.{number_of}
-use Rattle.chost.specs.Area.{head, mark_bytes, with_front}
-use Rattle.chost.specs.Once.{capacity, Once, Fronted}
+use Rattle.chost.specs.Area.{head, mark_bytes, laid, with_front}
+use Rattle.chost.specs.Once.{capacity, Once, LentEnough}
 use Rattle.chost.specs.Once.Once.{unloaded, unread, read}
 use Rattle.chost.specs.Called.{answer_of, area_after, Called}
-use Rattle.chost.proofs.Reading.{Loads, loads, said}
+use Rattle.chost.proofs.Reading.{loads, Said, said}
 
 -- what stands behind the marks is not laid out
-pub behind : (answer : Result Reading Refusal) (ms : List Mark) (lent : ℕ) (marks rest : List Mark) (area : List ℕ) → Fronted ms lent marks answer → length marks ≡ lent
+pub behind : (answer : Result Reading Refusal) (lent : ℕ) (marks rest : List Mark) (area : List ℕ) → LentEnough lent answer → length marks ≡ lent
     → area_after answer (marks ++ rest) area ≡ area_after answer marks area
-behind (Ok r) ms lent marks rest area f l =
+behind (Ok r) lent marks rest area f l =
     ap (λ xs. with_front (head r ++ flat_map mark_bytes xs) area) (take-append-le r.marks marks rest (omega (arith, f.few, f.enough)))
-behind (Err e) ms lent marks rest area f l = refl
+behind (Err e) lent marks rest area f l = refl
 
--- refusals of which neither goes after the other are one number
-number_same : (a b : Refusal) → NotAfter a b → NotAfter b a → number_of a ≡ number_of b
-number_same a b h k = elim h [
-  | inl x ↦ elim k [ inl y ↦ absurd (omega arith) | inr y ↦ absurd (omega (arith, y.0)) ]
-  | inr x ↦ elim k [
-    | inl y ↦ absurd (omega (arith, x.0))
-    | inr y ↦ elim x.1 [
-      | inl v ↦ elim y.1 [ inl w ↦ absurd (omega arith) | inr w ↦ absurd (omega (arith, w.0)) ]
-      | inr v ↦ elim y.1 [ inl w ↦ absurd (omega (arith, v.0)) | inr w ↦ omega (arith, x.0, v.0, v.1, w.1) ]
-    ]
-  ]
-]
+-- and marks that stand at the front are laid out
+pub front_laid : (r : Reading) (ms marks rest : List Mark) (area : List ℕ) → r.marks ≡ length ms → take (length ms) marks ≡ ms
+    → with_front (laid r (marks ++ rest)) area ≡ with_front (laid r ms) area
+front_laid r ms marks rest area n front =
+    let short : length ms ≤ length marks = omega (arith, ap length front, length-take (length ms) marks) in
+    let same : take r.marks (marks ++ rest) ≡ take r.marks ms =
+    ap (λ k. take k (marks ++ rest)) n ∙ take-append-le (length ms) marks rest short ∙ front ∙ sym (take_all r.marks ms (omega arith)) in
+    ap (λ xs. with_front (head r ++ flat_map mark_bytes xs) area) same
 
-least_same : {E : Type 0} (refusal : E → Refusal) (P Q : E → Type 0) (e d : E) → ((x : E) → P x → Q x) → ((x : E) → Q x → P x)
-    → Least refusal P e → Least refusal Q d → number_of (refusal e) ≡ number_of (refusal d)
-least_same refusal P Q e d to from x y = number_same (refusal e) (refusal d) (x.first d (from d y.applies)) (y.first e (to e x.applies))
+-- refusals with one number and one place are one number
+number_same : (a b : Refusal) → SamePlace a b → number_of a ≡ number_of b
+number_same a b s = omega (arith, s.number, s.first, s.second)
 
 -- both refuse a load alike
 loads_same : (graph plan : List ℕ) {e d : LoadFault} {p q : PlainTap} → PlainLoad fresh graph plan capacity (Err e) p → PlainLoad fresh graph plan capacity (Err d) q
     → number_of (of_load e) ≡ number_of (of_load d)
-loads_same graph plan {e} {d} (refused x) (refused y) = number_same (of_load e) (of_load d) (x.first d y.applies) (y.first e x.applies)
+loads_same graph plan {e} {d} x y = number_same (of_load e) (of_load d) (same_place (of_load e) (of_load d) (x.answers.first d y.answers.applies) (y.answers.first e x.answers.applies))
 
 loads_apart : (graph plan : List ℕ) {e : LoadFault} {p q : PlainTap} → PlainLoad fresh graph plan capacity (Err e) p → PlainLoad fresh graph plan capacity (Ok tt) q → ⊥
-loads_apart graph plan {e} (refused x) (accepted none is same) = none e x.applies
+loads_apart graph plan {e} x y = y.answers.0 e x.answers.applies
 
 -- a read's refusal, where something is loaded in both
 applies_same : (size n m : ℕ) (a b : Option GraphAndPlan) (its : GraphAndPlan) → n ≡ m → a ≡ Some its → (e : PacketFault) → PacketApplies size n a e → PacketApplies size m b e
@@ -60,17 +58,18 @@ applies_same size n m a b its l there FewMarks h = omega (arith, h)
 applies_same size n m a b its l there NothingLoaded h = cc
 
 module _ (graph plan packet : List ℕ) {before other : List Mark} (l : length before ≡ length other) where
-  reads_same : {e d : PacketFault} {after front : List Mark} {p q v w : PlainTap} → Loads graph plan p → Loads graph plan q → PlainRead p packet before (Err e) after v
-      → PlainRead q packet other (Err d) front w → number_of (of_packet e) ≡ number_of (of_packet d)
+  reads_same : {e d : PacketFault} {after front : List Mark} {qs rs : List Question} {p q v w : PlainTap} → p.loaded ≡ Some (said_by graph plan) → q.loaded ≡ Some (said_by graph plan)
+      → PlainRead p packet before (Err e) after qs v → PlainRead q packet other (Err d) front rs w → number_of (of_packet e) ≡ number_of (of_packet d)
   reads_same {e} {d} {p = p} {q = q} i j (read_refused x) (read_refused y) =
-      least_same of_packet (PacketApplies (length packet) (length before) p.loaded) (PacketApplies (length packet) (length other) q.loaded) e d
-      (applies_same (length packet) (length before) (length other) p.loaded q.loaded i.its l i.there)
-      (applies_same (length packet) (length other) (length before) q.loaded p.loaded j.its (sym l) j.there) x y
+      number_same (of_packet e) (of_packet d)
+      (least_same of_packet (PacketApplies (length packet) (length before) p.loaded) (PacketApplies (length packet) (length other) q.loaded) e d
+      (applies_same (length packet) (length before) (length other) p.loaded q.loaded (said_by graph plan) l i)
+      (applies_same (length packet) (length other) (length before) q.loaded p.loaded (said_by graph plan) (sym l) j) x y)
 
-  reads_apart : {e : PacketFault} {r : Reading} {after front : List Mark} {p q v w : PlainTap} → Loads graph plan p → PlainRead p packet before (Err e) after v
-      → PlainRead q packet other (Ok r) front w → ⊥
+  reads_apart : {e : PacketFault} {r : Reading} {after front : List Mark} {qs rs : List Question} {p q v w : PlainTap} → p.loaded ≡ Some (said_by graph plan) → PlainRead p packet before (Err e) after qs v
+      → PlainRead q packet other (Ok r) front rs w → ⊥
   reads_apart {e} {p = p} {q = q} i (read_refused x) (read_walked clear there tells) =
-      clear e (applies_same (length packet) (length before) (length other) p.loaded q.loaded i.its l i.there e x.applies)
+      clear e (applies_same (length packet) (length before) (length other) p.loaded q.loaded (said_by graph plan) l i e x.applies)
 
 -- the same answer, and the same area
 pub record Alike (r s : Result Reading Refusal) (after front : List Mark) (area : List ℕ) : Type 0 where
@@ -91,11 +90,17 @@ module _ (graph plan packet area : List ℕ) where
   once_alike l (read x i) (read y k) =
       let a = said graph plan packet (loads graph plan x) i in
       let b = said graph plan packet (loads graph plan y) k in
-      let same = b.is ∙ sym a.is in
+      let both = one_telling (said_by graph plan) (said_by graph plan) refl refl packet b.tells a.tells in
       record {
-        answer = ap (λ (z : Reading). answer_of (Ok z)) same;
-        left = ap₂ (λ (z : Reading) xs. with_front (head z ++ flat_map mark_bytes xs) area) same (b.front.front ∙ sym a.front.front);
+        answer = ap (λ (z : Reading). answer_of (Ok z)) both.2;
+        left =
+            ap₂ (λ (z : Reading) xs. with_front (head z ++ flat_map mark_bytes xs) area) both.2
+            (marks_there b ∙ both.0 ∙ sym (marks_there a));
       }
+    where
+      -- the marks stand at the front
+      marks_there : {lent left : List Mark} {qs : List Question} {z : Reading} → (s : Said graph plan packet lent left qs z) → take z.marks left ≡ s.ms
+      marks_there {lent} {left} s = ap₂ take s.tells.marks s.written ∙ take-append_seam s.ms (drop (length s.ms) lent)
 
   pub called_alike : {n m : ℕ} {after left : List ℕ} → Called graph plan packet area n after → Called graph plan packet area m left → (m ≡ n) × (left ≡ after)
   called_alike x y =

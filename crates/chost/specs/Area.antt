@@ -1,5 +1,5 @@
 -- What is laid out in an area.
-use Rattle.std.specs.Prelude.{ℕ, ◌+◌, ◌-◌, ◌/◌, min, List, ◌∷◌, ◌++◌, length, take, drop}
+use Rattle.std.specs.Prelude.{ℕ, ◌-◌, ◌/◌, min, List, ◌∷◌, ◌++◌, length, take, drop}
 use Rattle.std.specs.List.{flat_map}
 use Rattle.headers.specs.declared.mark.Mark.{Mark}
 use Rattle.graph_reader.specs.Encoding.{two}

@@ -2,10 +2,16 @@
 
 #![tactic(auto)]
 
-ghost use Rattle.std.specs.Prelude.{◌≡◌, ℕ, List, length};
-ghost use Rattle.chost.specs.Area.{room};
-ghost use Rattle.chost.specs.Once.{call, trace};
-ghost use Rattle.chost.specs.Called.{answer_of, area_after, Called};
+ghost use Rattle.std.specs.Prelude.{◌≡◌, ℕ, List, length, Some, None};
+ghost use Rattle.refusals.specs.declared.refusal.Refusal.{Refusal};
+ghost use Rattle.headers.specs.declared.mark.Mark.{Mark};
+ghost use Rattle.stores.specs.declared.question.Question.{Question};
+ghost use Rattle.walks.specs.declared.outcome.Outcome.{Outcome};
+ghost use Rattle.walks.specs.Outcomes.{ending_number};
+ghost use Rattle.chost.specs.Number.{number_of};
+ghost use Rattle.chost.specs.Area.{room, laid, with_front};
+ghost use Rattle.chost.specs.Once.{refused_by, ReadByFiles, reading_of};
+ghost use Rattle.chost.specs.Called.{Called};
 
 mod area;
 mod number;
@@ -24,10 +30,17 @@ use walker::walk::MOST_MARKS;
 /// An area has room for 32 marks from 198 bytes on.
 #[unsafe(no_mangle)]
 pub extern "C" fn tap_read(graph: &[u8], plan: &[u8], packet: &[u8], area: &mut [u8]) -> u64
-    ensures answer { result ≡ answer_of (call graph.now plan.now packet.now (room (length area.old))) }
-    ensures area { area.new ≡ area_after (call graph.now plan.now packet.now (room (length area.old))) (trace graph.now plan.now packet.now).marks area.old }
+    ensures refused { (e : Refusal) →
+        refused_by graph.now plan.now (length packet.now) (room (length area.old)) ≡ Some e →
+        (result ≡ number_of e) × (area.new ≡ area.old) }
+    ensures read { refused_by graph.now plan.now (length packet.now) (room (length area.old)) ≡ None →
+        (ms : List Mark) (o : Outcome) (qs : List Question) →
+        ReadByFiles graph.now plan.now packet.now ms o qs →
+        (result ≡ ending_number o.ending) × (area.new ≡ with_front (laid (reading_of ms o qs) ms) area.old) }
     ensures called { Called graph.now plan.now packet.now area.old result area.new }
-    ensures only { (other : ℕ) (after : List ℕ) → Called graph.now plan.now packet.now area.old other after → (other ≡ result) × (after ≡ area.new) }
+    ensures only { (other : ℕ) (after : List ℕ) →
+        Called graph.now plan.now packet.now area.old other after →
+        (other ≡ result) × (after ≡ area.new) }
 {
     let mut marks = [NO_MARK; MOST_MARKS];
     let answer = read_once(graph, plan, packet, &mut marks[..room(area.len())]);

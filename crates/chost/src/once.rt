@@ -1,6 +1,10 @@
 // A tap that loads once and reads once.
-ghost use Rattle.std.specs.Prelude.{◌≡◌, length};
-ghost use Rattle.chost.specs.Once.{call, trace, Once, Fronted};
+ghost use Rattle.std.specs.Prelude.{◌≡◌, List, length, None};
+ghost use Rattle.refusals.specs.Searching.{fault_of};
+ghost use Rattle.headers.specs.declared.mark.Mark.{Mark};
+ghost use Rattle.stores.specs.declared.question.Question.{Question};
+ghost use Rattle.walks.specs.declared.outcome.Outcome.{Outcome};
+ghost use Rattle.chost.specs.Once.{refused_by, ReadByFiles, AnsweredBy, LentEnough, Once};
 
 use headers::mark::Mark;
 use readers::read::Reading;
@@ -15,8 +19,12 @@ pub(crate) fn read_once(
     packet: &[u8],
     marks: &mut [Mark],
 ) -> Result<Reading, Refusal>
-    ensures is { result ≡ call graph.now plan.now packet.now (length marks.old) }
-    ensures front { Fronted (trace graph.now plan.now packet.now).marks (length marks.old) marks.new result }
+    ensures is { fault_of result ≡ refused_by graph.now plan.now (length packet.now) (length marks.old) }
+    ensures lent { LentEnough (length marks.old) result }
+    ensures read { refused_by graph.now plan.now (length packet.now) (length marks.old) ≡ None →
+        (ms : List Mark) (o : Outcome) (qs : List Question) →
+        ReadByFiles graph.now plan.now packet.now ms o qs →
+        AnsweredBy ms o qs result marks.new }
     ensures once { Once graph.now plan.now packet.now marks.old result marks.new }
 {
     let mut tap: Tap<Listing> = Tap::new(Listing::new());

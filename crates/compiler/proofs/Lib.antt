@@ -7,3 +7,4 @@ pub mod Filling
 pub mod Heading
 pub mod Refused
 pub mod Stored
+pub mod Faults

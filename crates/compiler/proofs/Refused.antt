@@ -3,8 +3,9 @@ use Rattle.std.specs.Option.{option_or, option_map}
 use Rattle.std.proofs.Common.{◌≡◌, ℕ, ◌*◌, ◌<◌, ◌≤◌, min, Bool, true, false, ◌&&◌, eqb, leb, ◌⊎◌, List, length, Some, None, Ok, Err, Option, sym, refl, ap, ◌∙◌, subst, inl, inr, arith}
 use Rattle.std.proofs.lemmas.Bool.{and_cases, and_parts, cases_lt, leb-true, leb-false, lt-leb, eqb-true}
 use Rattle.refusals.specs.Searching.{unless, unless_fault}
-use Rattle.refusals.specs.Least.{rank, NotAfter, Least}
+use Rattle.refusals.specs.Least.{NotAfter, Least}
 use Rattle.refusals.proofs.Searching.{unless_none, option_or_none}
+use Rattle.refusals.proofs.Ranking.{lower}
 use Rattle.headers.specs.declared.kinds.Kind.{Kind}
 use Rattle.graphs.specs.View.{NodeView}
 use Rattle.graph_reader.specs.declared.fault.ReadFault.{ReadFault}
@@ -13,8 +14,10 @@ use Rattle.graph_reader.specs.Faults.{of_read}
 use Rattle.graph_reader.specs.Refusals.{Applies}
 use Rattle.graph_reader.specs.Decoding.{nodes_in}
 use Rattle.graph_reader.specs.Reading.{read_fault, reading}
-use Rattle.graph_reader.proofs.Refused.{file_rank, graph_ranks}
+use Rattle.graph_reader.proofs.Refused.{file_number, graph_numbers}
+use Rattle.walks.specs.Rows.{store_rows}
 use Rattle.walks.specs.Plans.{store_count}
+use Rattle.walks.proofs.Count.{rows_counted}
 use Rattle.plans.specs.declared.fault.PlanFault.{PlanFault}
 use Rattle.plans.specs.declared.fault.PlanFault.TheVariants.{Shape, Rule}
 use Rattle.plans.specs.Chains.{chain_in}
@@ -25,15 +28,15 @@ use Rattle.compiler.specs.declared.fault.LoadFault.{LoadFault}
 use Rattle.compiler.specs.declared.fault.LoadFault.TheVariants.{File, Graph, Plan, TooMany, Store}
 use Rattle.compiler.specs.Faults.{of_load, from_read}
 use Rattle.compiler.specs.Programs.{most_rows}
-use Rattle.compiler.specs.Loading.{roomy, LoadApplies, room_fault, load_fault}
+use Rattle.compiler.specs.Loading.{roomy, TooManyRows, LoadApplies, room_fault, load_fault}
 
-read_rank : (e : ReadFault) → rank (of_load (from_read e)) ≤ 6
-read_rank (read.File e) = omega (arith, file_rank e)
-read_rank (read.Graph e) = graph_ranks e
+read_number : (e : ReadFault) → (of_load (from_read e)).number ≤ 6
+read_number (read.File e) = omega (arith, file_number e)
+read_number (read.Graph e) = graph_numbers e
 
-plan_rank : (e : PlanFault) → (7 ≤ rank (of_plan e)) × (rank (of_plan e) ≤ 8)
-plan_rank (Shape n) = (omega arith, omega arith)
-plan_rank (Rule n) = (omega arith, omega arith)
+plan_number : (e : PlanFault) → (7 ≤ (of_plan e).number) × ((of_plan e).number ≤ 8)
+plan_number (Shape n) = (omega arith, omega arith)
+plan_number (Rule n) = (omega arith, omega arith)
 
 -- what is read: the graph that the file says
 pub read_is : (minimum : Kind → ℕ) (f : List ℕ) (g : List NodeView) → Ok g ≡ reading minimum f → g ≡ nodes_in f
@@ -107,6 +110,10 @@ module _ (minimum : Kind → ℕ) (f p : List ℕ) (capacity : ℕ) where
         ∙ ap (λ o. option_or (option_map Plan o) (room_fault count capacity)) plan
         ∙ ap (λ o. option_or (option_map from_read o) (option_or (option_map Plan (plan_fault (nodes_in f) p)) (room_fault count capacity))) read
 
+  -- which is the number of the rows
+  counted : length (store_rows (nodes_in f) (chain_in p)) ≡ count
+  counted = rows_counted (nodes_in f) (chain_in p)
+
   abbrev Faulty : LoadFault → Type 0
   Faulty = LoadApplies minimum f p capacity
 
@@ -125,8 +132,8 @@ module _ (minimum : Kind → ℕ) (f p : List ℕ) (capacity : ℕ) where
       first : (d : LoadFault) → Faulty d → NotAfter (of_load (from_read e)) (of_load d)
       first (File d) h = subst (λ r. NotAfter r (of_load (File d))) (same e) (l.first (read.File d) h)
       first (Graph d) h = subst (λ r. NotAfter r (of_load (Graph d))) (same e) (l.first (read.Graph d) h)
-      first (Plan d) h = inl (omega (arith, read_rank e, (plan_rank d).0))
-      first (TooMany rows) h = inl (omega (arith, read_rank e))
+      first (Plan d) h = lower (of_load (from_read e)) (of_plan d) (omega (arith, read_number e, (plan_number d).0)) (omega (arith, (plan_number d).1))
+      first (TooMany rows) h = lower (of_load (from_read e)) (of_load (TooMany rows)) (omega (arith, read_number e)) (omega arith)
       first (Store d) h = absurd h
 
   module _ (Read-none : (e : ReadFault) → Applies minimum f e → ⊥) where
@@ -138,19 +145,22 @@ module _ (minimum : Kind → ℕ) (f p : List ℕ) (capacity : ℕ) where
         first (File d) h = absurd (Read-none (read.File d) h)
         first (Graph d) h = absurd (Read-none (read.Graph d) h)
         first (Plan d) h = l.first d h
-        first (TooMany rows) h = inl (omega (arith, (plan_rank e).1))
+        first (TooMany rows) h = lower (of_plan e) (of_load (TooMany rows)) (omega (arith, (plan_number e).1)) (omega arith)
         first (Store d) h = absurd h
 
     module _ (plan_none : (e : PlanFault) → PlanApplies (nodes_in f) p e → ⊥) (rows : ℕ) (told : rows ≡ min (store_count (nodes_in f) (chain_in p)) 65535) where
       -- 9
       rows_least : roomy rows capacity ≡ false → Least of_load Faulty (TooMany rows)
-      rows_least e = record { applies = record { over = over_cut _ capacity (ap (λ n. roomy n capacity) (sym told) ∙ e); told = told }; first = λ d h. first d h }
+      rows_least e = record {
+        applies = subst (λ n. TooManyRows n capacity rows) (sym counted) (record { over = over_cut _ capacity (ap (λ n. roomy n capacity) (sym told) ∙ e); told = told });
+        first = λ d h. first d h;
+      }
         where
           first : (d : LoadFault) → Faulty d → NotAfter (of_load (TooMany rows)) (of_load d)
           first (File d) h = absurd (Read-none (read.File d) h)
           first (Graph d) h = absurd (Read-none (read.Graph d) h)
           first (Plan d) h = absurd (plan_none d h)
-          first (TooMany n) h = inr (refl, inr (told ∙ sym h.told, omega arith))
+          first (TooMany n) h = inr (refl, inr (told ∙ ap (λ k. min k 65535) (sym counted) ∙ sym h.told, omega arith))
           first (Store d) h = absurd h
 
       pub room_least : (x : LoadFault) → Some x ≡ unless (roomy rows capacity) (TooMany rows) → Least of_load Faulty x
@@ -167,5 +177,5 @@ module _ (minimum : Kind → ℕ) (f p : List ℕ) (capacity : ℕ) where
       nothing_left t (Plan d) h = plan_none d h
       nothing_left t (TooMany n) h =
           let r = roomy_cut (store_count (nodes_in f) (chain_in p)) capacity (ap (λ n. roomy n capacity) (sym told) ∙ t) in
-          elim h.over [ inl l ↦ omega (arith, r.0) | inr l ↦ omega (arith, r.1) ]
+          elim h.over [ inl l ↦ omega (arith, counted, r.0) | inr l ↦ omega (arith, counted, r.1) ]
       nothing_left t (Store d) h = h

@@ -1,6 +1,6 @@
 -- What a load is refused for, in words and as the first fault, and what it leaves.
 use Rattle.std.specs.Option.{option_or, option_map}
-use Rattle.std.specs.Prelude.{◌≡◌, ℕ, ◌-◌, ◌*◌, ◌<◌, ◌≤◌, min, Bool, ◌&&◌, ◌⊎◌, List, map, length, Ok, Option, nat_le}
+use Rattle.std.specs.Prelude.{◌≡◌, ℕ, ◌*◌, ◌<◌, ◌≤◌, min, Bool, ◌&&◌, ◌⊎◌, List, map, length, Ok, Option, nat_le}
 use Rattle.refusals.specs.Searching.{unless}
 use Rattle.headers.specs.declared.kinds.Kind.{Kind}
 use Rattle.graphs.specs.View.{NodeView, graph_view}
@@ -9,7 +9,7 @@ use Rattle.graph_reader.specs.Refusals.{FileApplies}
 use Rattle.graph_reader.specs.Decoding.{nodes_in}
 use Rattle.graph_reader.specs.Reading.{read_fault, reading}
 use Rattle.stores.specs.Fits.{fits}
-use Rattle.stores.specs.Meaning.{Meaning, holding}
+use Rattle.stores.specs.Meaning.{Meaning, wiped, appended_each}
 use Rattle.walks.specs.Rows.{StoreRow, store_rows}
 use Rattle.walks.specs.Plans.{Lawful, store_count}
 use Rattle.compiler.specs.declared.checked.Checked.{Checked}
@@ -37,10 +37,10 @@ abbrev pub LoadApplies : (Kind → ℕ) → List ℕ → List ℕ → ℕ → Lo
 LoadApplies minimum file plan capacity (File e) = FileApplies file e
 LoadApplies minimum file plan capacity (Graph e) = GraphApplies minimum (nodes_in file) e
 LoadApplies minimum file plan capacity (Plan e) = PlanApplies (nodes_in file) plan e
-LoadApplies minimum file plan capacity (TooMany rows) = TooManyRows (store_count (nodes_in file) (chain_in plan)) capacity rows
+LoadApplies minimum file plan capacity (TooMany rows) = TooManyRows (length (store_rows (nodes_in file) (chain_in plan))) capacity rows
 LoadApplies minimum file plan capacity (Store e) = ⊥
 
--- what is said of a count of rows
+-- what is said of a count of rows. It is counted by a formula that lists none, which is proved to give their number
 abbrev pub room_fault : (count capacity : ℕ) → Option LoadFault
 room_fault count capacity = unless (roomy count capacity) (TooMany (min count 65535))
 
@@ -50,9 +50,9 @@ load_fault minimum file plan capacity =
     option_or (option_map from_read (read_fault minimum file))
     (option_or (option_map Plan (plan_fault (nodes_in file) plan)) (room_fault (store_count (nodes_in file) (chain_in plan)) capacity))
 
--- the store holds the rows of graph and plan in order, and no others; capacity and questions are as before
+-- the store is wiped, and the rows of graph and plan are appended in order
 abbrev pub storing : Meaning → List StoreRow → Meaning
-storing m rows = holding m (map (λ (r : StoreRow). fits r.row) rows) (m.capacity - length rows)
+storing m rows = appended_each (wiped m) (map (λ (r : StoreRow). r.row) rows)
 
 -- what is promised of an accepted load: the file is read as a graph, the plan's chains keep its rules, the store holds their rows,
 -- and the program stands for both
@@ -61,6 +61,8 @@ pub record Loaded (minimum : Kind → ℕ) (file plan : List ℕ) (before after 
   pub read : reading minimum file ≡ Ok graph
   pub lawful : Lawful graph (chain_in plan)
   pub rows : after ≡ storing before (store_rows graph (chain_in plan))
+  -- so that it holds these rows in order, and no others
+  pub holds : after.rows ≡ map (λ (r : StoreRow). fits r.row) (store_rows graph (chain_in plan))
   pub stands : Stands minimum program graph (chain_in plan)
 
 -- what is known once nothing is refused

@@ -1,4 +1,5 @@
--- The ternary rows of a node, one after the other.
+-- The ternary rows of a node, one after the other, as the compiler goes over them. Nothing has to be believed of them: that they are the
+-- pieces of `walks/specs/Rows` is proved
 use Rattle.std.specs.Prelude.{◌*◌, List, [], ◌∷◌, ◌++◌, map, drop, Some, None, Option}
 use Rattle.std.specs.List.{flat_map}
 use Rattle.patterns.specs.declared.block.Block.{Block}

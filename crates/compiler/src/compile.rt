@@ -1,9 +1,10 @@
 // Loading a graph file and a plan into any store.
-ghost use Rattle.std.specs.Prelude.{◌≡◌, ℕ, ◌≤◌, [], length, Ok, OnErr};
+ghost use Rattle.std.specs.Prelude.{◌≡◌, ℕ, ◌≤◌, [], map, length, Ok, OnErr};
 ghost use Rattle.refusals.specs.Searching.{fault_of, unless};
 ghost use Rattle.refusals.specs.Least.{Answers};
 ghost use Rattle.headers.specs.Table.{minimum_in, standard_table};
 ghost use Rattle.graphs.specs.View.{graph_view};
+ghost use Rattle.stores.specs.Fits.{fits};
 ghost use Rattle.compiler.specs.Filled.{all_rows};
 ghost use Rattle.walks.specs.Plans.{Lawful, store_count};
 ghost use Rattle.plans.specs.Chains.{chain_of};
@@ -91,6 +92,7 @@ fn load<S: Store>(
     requires past { (n : ℕ) → length (graph_view checked.now.graph) ≤ n → chain_of checked.now.chains n ≡ [] }
     ensures answered { result ≡ Ok tt }
     ensures rows { S.Store.meaning store.new ≡ storing (S.Store.meaning store.old) (all_rows checked.now) }
+    ensures holds { (S.Store.meaning store.new).rows ≡ map (λ r. fits r.row) (all_rows checked.now) }
     ensures stands { Stands (minimum_in table.now) program.new (graph_view checked.now.graph) (chain_of checked.now.chains) }
 {
     let actions = &mut program.actions;

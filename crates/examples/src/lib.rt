@@ -10,4 +10,6 @@ pub mod sample;
 #[cfg(test)]
 mod searches;
 #[cfg(test)]
+mod surveys;
+#[cfg(test)]
 mod words;

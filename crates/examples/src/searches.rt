@@ -128,6 +128,43 @@ fn patterns_fit_and_cover(rt: HostRuntime) {
     }
 }
 
+// A row, and another that its pattern covers: itself too.
+const TERNARY_COVERED: [(TernaryRow, TernaryRow); 4] = [
+    (VLAN, VLAN),
+    (ANY, VLAN),
+    (ANY, IPV4),
+    (ANY, ANY),
+];
+
+const RANGES_COVERED: [(RangeRow, RangeRow); 3] = [
+    (DIGITS, DIGITS),
+    (TWENTIES, LATE_TWENTIES),
+    (LATE_TWENTIES, LATE_TWENTIES),
+];
+
+// Whether the row's pattern takes its own sample, and that of the other's pattern, if both rows make one.
+fn samples_taken<P: Pattern>(row: &P::Plain, other: &P::Plain) -> Option<(bool, bool)> {
+    match (P::make(row), P::make(other)) {
+        (Some(pattern), Some(second)) => Some((
+            pattern.fits(pattern.sample()),
+            pattern.fits(second.sample()),
+        )),
+        _ => None,
+    }
+}
+
+#[test]
+fn samples_fit(rt: HostRuntime) {
+    for (row, other) in TERNARY_COVERED {
+        assert_eq!(rt; samples_taken::<Ternary>(&row, &other), Some((true, true)));
+    }
+    for (row, other) in RANGES_COVERED {
+        assert_eq!(rt; samples_taken::<Span>(&row, &other), Some((true, true)));
+    }
+    assert_eq!(rt; samples_taken::<Ternary>(&STRAY, &ANY), None);
+    assert_eq!(rt; samples_taken::<Span>(&DIGITS, &REVERSED), None);
+}
+
 const UNUSED: Block = Block { value: 0, mask: 0 };
 // Low, high, how many blocks, and the first three places of the array after the call.
 const SPLIT_CASES: [(u16, u16, usize, [Block; 3]); 2] = [

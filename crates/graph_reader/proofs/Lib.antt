@@ -1,6 +1,7 @@
 pub mod Pairing
 pub mod Filling
 pub mod Recorded
+pub mod Ranges
 pub mod Spelling
 pub mod Filed
 pub mod Refused

@@ -1,7 +1,7 @@
 -- Where the parts of an encoding lie.
-use Rattle.std.proofs.Common.{◌≡◌, ℕ, zero, suc, ◌+◌, ◌*◌, ◌/◌, ◌%◌, ◌<◌, ◌≤◌, List, [], ◌∷◌, ◌++◌, length, get_or, take, drop, sym, refl, ap, ◌∙◌, ap₂, add-zero, arith}
+use Rattle.std.proofs.Common.{◌≡◌, ℕ, zero, suc, ◌+◌, ◌*◌, ◌/◌, ◌%◌, ◌<◌, ◌≤◌, List, [], ◌∷◌, ◌++◌, map, length, get_or, take, drop, sym, refl, ap, ◌∙◌, ap₂, add-zero, arith}
 use Rattle.std.specs.List.{flat_map}
-use Rattle.std.proofs.lemmas.List.{length-append, length-take-le, append_assoc, get_or_append_left, get_or-append_right, get_or-append-add, take_at, drop_at, drop-drop}
+use Rattle.std.proofs.lemmas.List.{length-append, length-map, get_or-map, length-take-le, append_assoc, get_or_append_left, get_or-append_right, get_or-append-add, take_at, drop_at, drop-drop}
 use Rattle.patterns.specs.declared.row.Target.{Target}
 use Rattle.patterns.specs.declared.row.Target.TheVariants.{Node, Done, Dropped}
 use Rattle.patterns.specs.declared.row.TernaryRow.{TernaryRow}
@@ -11,7 +11,7 @@ use Rattle.graphs.specs.declared.graph.Length.{Length}
 use Rattle.graphs.specs.declared.graph.Length.TheVariants.{Fixed, Counted}
 use Rattle.graphs.specs.View.{RowsView, ternary_rows, range_rows, NodeView, row_count}
 use Rattle.graph_reader.specs.Records.{at}
-use Rattle.graph_reader.specs.Encoding.{two, length_bytes, place_bytes, target_bytes, ternary_bytes, range_bytes, sort_byte, row_bytes, record_of, record_length, pairs_from, encode}
+use Rattle.graph_reader.specs.Encoding.{two, length_bytes, place_bytes, target_bytes, ternary_bytes, range_bytes, sort_byte, row_bytes, record_with, record_length, pairs_from}
 use Rattle.graph_reader.specs.Files.{offset, size, record_at}
 
 target_length : (t : Target) → length (target_bytes t) ≡ 2
@@ -38,12 +38,12 @@ row_at f e (x ∷ xs) (suc k) j d h l =
     get_or-append_right (f x) (flat_map f xs) 10 (10 * suc k + j) 0 (e x) (omega arith)
     ∙ ap (at (flat_map f xs)) (omega arith) ∙ row_at f e xs k j d (omega arith) l
 
--- the 16 bytes before the rows
-abbrev pub head : NodeView → List ℕ
-head v = kind_number v.kind ∷ (length_bytes v.len ++ (length v.places ∷ (place_bytes v.places ++ (sort_byte v.rows ∷ row_count v.rows ∷ 0 ∷ []))))
+-- the 16 bytes before the rows, under the counts that are given
+abbrev pub head : ℕ → ℕ → NodeView → List ℕ
+head places rows v = kind_number v.kind ∷ (length_bytes v.len ++ (places ∷ (place_bytes v.places ++ (sort_byte v.rows ∷ rows ∷ 0 ∷ []))))
 
-pub record_parts : (v : NodeView) → record_of v ≡ head v ++ row_bytes v.rows
-record_parts v = simp append_assoc
+pub record_parts : (places rows : ℕ) (v : NodeView) → record_with places rows v ≡ head places rows v ++ row_bytes v.rows
+record_parts places rows v = simp append_assoc
 
 pub places_length : (ps : List ℕ) → length (place_bytes ps) ≡ 4
 places_length ps = length-take-le 4 (ps ++ 0 ∷ 0 ∷ 0 ∷ 0 ∷ []) (omega (arith, length-append ps (0 ∷ 0 ∷ 0 ∷ 0 ∷ [])))
@@ -52,26 +52,23 @@ pub length_of : (l : Length) (xs : List ℕ) → length (length_bytes l ++ xs) �
 length_of (Fixed n) xs = omega arith
 length_of (Counted place mask shift unit base) xs = omega arith
 
-pub head_length : (v : NodeView) → length (head v) ≡ 16
-head_length v =
-    let rest = sort_byte v.rows ∷ row_count v.rows ∷ 0 ∷ [] in
-    omega (arith, length_of v.len (length v.places ∷ (place_bytes v.places ++ rest)), length-append (place_bytes v.places) rest, places_length v.places)
+pub head_length : (places rows : ℕ) (v : NodeView) → length (head places rows v) ≡ 16
+head_length places rows v =
+    let rest = sort_byte v.rows ∷ rows ∷ 0 ∷ [] in
+    omega (arith, length_of v.len (places ∷ (place_bytes v.places ++ rest)), length-append (place_bytes v.places) rest, places_length v.places)
 
 pub rows_length : (v : RowsView) → length (row_bytes v) ≡ 10 * row_count v
 rows_length (ternary_rows rs) = joined_length ternary_bytes ternary_length rs
 rows_length (range_rows rs) = joined_length range_bytes range_length rs
 
-pub record_long : (v : NodeView) → length (record_of v) ≡ record_length v
-record_long v = ap length (record_parts v) ∙ length-append (head v) (row_bytes v.rows) ∙ ap₂ (λ a b. a + b) (head_length v) (rows_length v.rows)
+pub record_long : (places rows : ℕ) (v : NodeView) → length (record_with places rows v) ≡ record_length v
+record_long places rows v =
+    ap length (record_parts places rows v) ∙ length-append (head places rows v) (row_bytes v.rows) ∙ ap₂ (λ a b. a + b) (head_length places rows v) (rows_length v.rows)
 
 -- the bytes of some records together
 abbrev pub sizes : List NodeView → ℕ
 sizes [] = 0
 sizes (v ∷ vs) = record_length v + sizes vs
-
-pub records_length : (vs : List NodeView) → length (flat_map record_of vs) ≡ sizes vs
-records_length [] = refl
-records_length (v ∷ vs) = length-append (record_of v) (flat_map record_of vs) ∙ ap₂ (λ a b. a + b) (record_long v) (records_length vs)
 
 pub pairs_length : (from : ℕ) (vs : List NodeView) → length (pairs_from from vs) ≡ 4 * length vs
 pairs_length from [] = refl
@@ -103,53 +100,68 @@ pair_at from (v ∷ vs) (suc i) j d h l =
     ∙ ap (at (pairs_from (from + record_length v) vs)) (omega arith) ∙ pair_at (from + record_length v) vs i j d (omega arith) l
     ∙ ap (λ x. at (two x ++ two (record_length (get_or vs i d))) j) (omega arith)
 
--- record i
-record_in : (vs : List NodeView) (i : ℕ) (d : NodeView) → i < length vs → take (record_length (get_or vs i d)) (drop (sizes (take i vs)) (flat_map record_of vs)) ≡ record_of (get_or vs i d)
-record_in [] i d h = absurd (omega arith)
-record_in (v ∷ vs) zero d h = take_at (record_of v) (flat_map record_of vs) (record_length v) (record_long v)
-record_in (v ∷ vs) (suc i) d h =
-    ap (take (record_length (get_or vs i d)))
-    (sym (drop-drop (sizes (take i vs)) (record_length v) (record_of v ++ flat_map record_of vs)) ∙ ap (drop (sizes (take i vs))) (drop_at (record_of v) (flat_map record_of vs) (record_length v) (record_long v)))
-    ∙ record_in vs i d (omega arith)
-
 pub two_back : (n : ℕ) → n / 256 * 256 + n % 256 ≡ n
 two_back n = omega arith
 
-module _ (vs : List NodeView) where
-  abbrev file : List ℕ
-  file = encode vs
+-- records, each as long as the pair of its node says
+module _ {X : Type 0} (view : X → NodeView) (bytes : X → List ℕ) (long : (x : X) → length (bytes x) ≡ record_length (view x)) where
+  records_length : (xs : List X) → length (flat_map bytes xs) ≡ sizes (map view xs)
+  records_length [] = refl
+  records_length (x ∷ xs) = length-append (bytes x) (flat_map bytes xs) ∙ ap₂ (λ a b. a + b) (long x) (records_length xs)
 
-  abbrev pairs : List ℕ
-  pairs = pairs_from (2 + 4 * length vs) vs
+  -- record i
+  record_in : (xs : List X) (i : ℕ) (d : X) → i < length xs
+      → take (record_length (view (get_or xs i d))) (drop (sizes (take i (map view xs))) (flat_map bytes xs)) ≡ bytes (get_or xs i d)
+  record_in [] i d h = absurd (omega arith)
+  record_in (x ∷ xs) zero d h = take_at (bytes x) (flat_map bytes xs) (record_length (view x)) (long x)
+  record_in (x ∷ xs) (suc i) d h =
+      ap (take (record_length (view (get_or xs i d))))
+      (sym (drop-drop (sizes (take i (map view xs))) (record_length (view x)) (bytes x ++ flat_map bytes xs)) ∙ ap (drop (sizes (take i (map view xs)))) (drop_at (bytes x) (flat_map bytes xs) (record_length (view x)) (long x)))
+      ∙ record_in xs i d (omega arith)
 
-  -- where record i begins
-  abbrev pub start : ℕ → ℕ
-  start i = 2 + 4 * length vs + sizes (take i vs)
+  -- their file, by the nodes that they show
+  module _ (xs : List X) {vs : List NodeView} (shown : map view xs ≡ vs) where
+    abbrev pub file_with : List ℕ
+    file_with = length vs ∷ 0 ∷ (pairs_from (2 + 4 * length vs) vs ++ flat_map bytes xs)
 
-  pub file_long : length file ≡ 2 + 4 * length vs + sizes vs
-  file_long = omega (arith, length-append pairs (flat_map record_of vs), pairs_length (2 + 4 * length vs) vs, records_length vs)
+    abbrev pairs : List ℕ
+    pairs = pairs_from (2 + 4 * length vs) vs
 
-  module _ (i : ℕ) (d : NodeView) (h : i < length vs) where
-    pair_byte : (j : ℕ) → j < 4 → at file (2 + (4 * i + j)) ≡ at (two (start i) ++ two (record_length (get_or vs i d))) j
-    pair_byte j l =
-        get_or-append-add (length vs ∷ 0 ∷ []) (pairs ++ flat_map record_of vs) (4 * i + j) 0
-        ∙ get_or_append_left pairs (flat_map record_of vs) 0 (4 * i + j) (omega (arith, pairs_length (2 + 4 * length vs) vs))
-        ∙ pair_at (2 + 4 * length vs) vs i j d h l
+    pub many : length vs ≡ length xs
+    many = ap length (sym shown) ∙ length-map xs view
 
-    byte_of : (j k : ℕ) → j < 4 → k ≡ 2 + (4 * i + j) → at file k ≡ at (two (start i) ++ two (record_length (get_or vs i d))) j
-    byte_of j k l e = ap (at file) e ∙ pair_byte j l
+    -- where record i begins
+    abbrev pub start : ℕ → ℕ
+    start i = 2 + 4 * length vs + sizes (take i vs)
 
-    pub offset_is : offset file i ≡ start i
-    offset_is = ap₂ (λ a b. a * 256 + b) (byte_of 0 (2 + 4 * i) (omega arith) (omega arith)) (byte_of 1 (2 + 4 * i + 1) (omega arith) (omega arith)) ∙ two_back (start i)
+    pub file_long : length file_with ≡ 2 + 4 * length vs + sizes vs
+    file_long = omega (arith, length-append pairs (flat_map bytes xs), pairs_length (2 + 4 * length vs) vs, records_length xs, ap sizes shown)
 
-    pub size_is : size file i ≡ record_length (get_or vs i d)
-    size_is =
-        ap₂ (λ a b. a * 256 + b) (byte_of 2 (4 + 4 * i) (omega arith) (omega arith)) (byte_of 3 (4 + 4 * i + 1) (omega arith) (omega arith)) ∙ two_back (record_length (get_or vs i d))
+    module _ (i : ℕ) (h : i < length vs) (d : X) where
+      abbrev size_of : ℕ
+      size_of = record_length (view (get_or xs i d))
 
-    pub record_is : record_at file i ≡ record_of (get_or vs i d)
-    record_is =
-        ap₂ (λ n m. take n (drop m file)) size_is offset_is
-        ∙ ap (take (record_length (get_or vs i d)))
-        (sym (drop-drop (sizes (take i vs)) (2 + 4 * length vs) file)
-        ∙ ap (drop (sizes (take i vs))) (drop_at (length vs ∷ 0 ∷ pairs) (flat_map record_of vs) (2 + 4 * length vs) (omega (arith, pairs_length (2 + 4 * length vs) vs))))
-        ∙ record_in vs i d h
+      pub shown_at : (e : NodeView) → get_or vs i e ≡ view (get_or xs i d)
+      shown_at e = ap (λ vs. get_or vs i e) (sym shown) ∙ get_or-map view xs i d e (omega (arith, many))
+
+      pair_byte : (j k : ℕ) → j < 4 → k ≡ 2 + (4 * i + j) → at file_with k ≡ at (two (start i) ++ two size_of) j
+      pair_byte j k l e =
+          ap (at file_with) e
+          ∙ get_or-append-add (length vs ∷ 0 ∷ []) (pairs ++ flat_map bytes xs) (4 * i + j) 0
+          ∙ get_or_append_left pairs (flat_map bytes xs) 0 (4 * i + j) (omega (arith, pairs_length (2 + 4 * length vs) vs))
+          ∙ pair_at (2 + 4 * length vs) vs i j (view d) h l ∙ ap (λ v. at (two (start i) ++ two (record_length v)) j) (shown_at (view d))
+
+      pub offset_is : offset file_with i ≡ start i
+      offset_is = ap₂ (λ a b. a * 256 + b) (pair_byte 0 (2 + 4 * i) (omega arith) (omega arith)) (pair_byte 1 (2 + 4 * i + 1) (omega arith) (omega arith)) ∙ two_back (start i)
+
+      pub size_is : size file_with i ≡ size_of
+      size_is = ap₂ (λ a b. a * 256 + b) (pair_byte 2 (4 + 4 * i) (omega arith) (omega arith)) (pair_byte 3 (4 + 4 * i + 1) (omega arith) (omega arith)) ∙ two_back size_of
+
+      pub record_is : record_at file_with i ≡ bytes (get_or xs i d)
+      record_is =
+          ap₂ (λ n m. take n (drop m file_with)) size_is offset_is
+          ∙ ap (take size_of)
+          (sym (drop-drop (sizes (take i vs)) (2 + 4 * length vs) file_with)
+          ∙ ap (drop (sizes (take i vs))) (drop_at (length vs ∷ 0 ∷ pairs) (flat_map bytes xs) (2 + 4 * length vs) (omega (arith, pairs_length (2 + 4 * length vs) vs)))
+          ∙ ap (λ vs. drop (sizes (take i vs)) (flat_map bytes xs)) (sym shown))
+          ∙ record_in xs i d (omega (arith, many))

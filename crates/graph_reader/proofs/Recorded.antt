@@ -45,17 +45,16 @@ record_whole f i p b h =
     (option_map_none (Byte i) (first_wrong (record_at f i)) (nowhere (record_fault f) (at f 0) 0 b i (omega arith) (omega arith)))
 
 -- the test of byte j of row k
-row_right_lem : (r : List ℕ) (k j : ℕ) → j < 10 → right r (16 + 10 * k + j) ≡ true → row_right r (16 + 10 * k) j ≡ true
+pub row_test : (r : List ℕ) (k j : ℕ) → j < 10 → right r (16 + 10 * k + j) ≡ row_right r (16 + 10 * k) j
 unfolding right
-row_right_lem r k j h e =
+row_test r k j h =
     let i = 16 + 10 * k + j in
     let a : 8 ≤ i = omega arith in
     let b : 16 ≤ i = omega arith in
     let row : (i - 16) / 10 ≡ k = omega arith in
     let byte : (i - 16) % 10 ≡ j = omega arith in
-    sym (cond-false (ltb i 8) _ _ (le-ltb i 8 a) ∙ cond-false (ltb i 16) _ _ (le-ltb i 16 b)
-    ∙ ap₂ (λ k j. row_right r (16 + 10 * k) j) row byte) ∙ e
+    cond-false (ltb i 8) _ _ (le-ltb i 8 a) ∙ cond-false (ltb i 16) _ _ (le-ltb i 16 b) ∙ ap₂ (λ k j. row_right r (16 + 10 * k) j) row byte
 
 -- each byte of each row of a record all of whose bytes are right
 pub row_bytes_right : (r : List ℕ) → Whole r → (k : ℕ) → k < at r 14 → (j : ℕ) → j < 10 → row_right r (16 + 10 * k) j ≡ true
-row_bytes_right r whole k h j l = row_right_lem r k j l (whole.each (16 + 10 * k + j) (omega (arith, whole.counted)))
+row_bytes_right r whole k h j l = sym (row_test r k j l) ∙ whole.each (16 + 10 * k + j) (omega (arith, whole.counted))

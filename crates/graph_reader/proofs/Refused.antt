@@ -3,9 +3,10 @@ use Rattle.std.specs.Option.{option_or, option_map}
 use Rattle.std.proofs.Common.{◌≡◌, ℕ, ◌+◌, ◌<◌, ◌≤◌, false, eqb, ltb, ◌⊎◌, List, length, Some, None, Option, Result, sym, refl, ap, ◌∙◌, subst, ap₂, inl, inr, arith}
 use Rattle.std.proofs.lemmas.Bool.{and_cases, or_cases, or_parts, cases_Bool, leb-false, ltb-true, ltb-false, eqb-true, eqb-false}
 use Rattle.refusals.specs.Searching.{first_told, unless, unless_fault}
-use Rattle.refusals.specs.Least.{rank, NotAfter, Answers}
+use Rattle.refusals.specs.Least.{NotAfter, Answers}
 use Rattle.refusals.proofs.Searching.{option_or_none, option_map_none}
-use Rattle.refusals.proofs.Lowest.{Lowest, lowest_like, lowest_or, lowest_of, lowest_unless, lowest_mapped, lower}
+use Rattle.refusals.proofs.Lowest.{Lowest, lowest_like, lowest_or, lowest_of, lowest_unless, lowest_mapped}
+use Rattle.refusals.proofs.Ranking.{lower}
 use Rattle.headers.specs.declared.kinds.Kind.{Kind}
 use Rattle.graphs.specs.declared.fault.GraphFault.{GraphFault}
 use Rattle.graphs.specs.declared.fault.GraphFault.TheVariants.{Target, Covered, Short}
@@ -22,10 +23,11 @@ use Rattle.graph_reader.specs.Encoding.{encode}
 use Rattle.graph_reader.specs.Records.{at, right}
 use Rattle.graph_reader.specs.Files.{offset, size, shape_right, pair_right, record_at, first_wrong, shape_fault, pair_fault, byte_fault, file_fault}
 use Rattle.graph_reader.specs.Faults.{of_file, of_read}
-use Rattle.graph_reader.specs.Refusals.{WrongShape, short, long, no_node, many_nodes, byte_one, WrongPair, missing, apart, past_end, odd_size, not_last, FileApplies, Applies}
+use Rattle.graph_reader.specs.Refusals.{WrongShape, short, long, no_node, many_nodes, byte_one, WrongPair, missing, apart, past_end, odd_size, not_last, OutOfRange, FileApplies, Applies}
 use Rattle.graph_reader.specs.Decoding.{nodes_in}
 use Rattle.graph_reader.specs.Reading.{read_fault, reading}
 use Rattle.graph_reader.proofs.Pairing.{Shaped, shape_says, Right, right_says}
+use Rattle.graph_reader.proofs.Ranges.{wrong_byte, not_byte}
 use Rattle.graph_reader.proofs.Filed.{file_encoded}
 
 -- the test of a file's shape, in words
@@ -131,45 +133,45 @@ module _ (f : List ℕ) where
   told e (inl (s, h)) = subst (FileApplies f) (sym s) (wrong_shape f h)
   told e (inr (inl (i, z, l, (s, h)))) = subst (FileApplies f) (sym s) (omega arith, wrong_pair f i h)
   told e (inr (inr (n, z, l, (x, s, (b, y, m, (t, h)))))) =
-      subst (FileApplies f) (sym s) (omega arith, (omega arith, subst (λ b. right (record_at f n) b ≡ false) (sym t) h))
+      subst (FileApplies f) (sym s) (omega arith, (omega arith, subst (OutOfRange (record_at f n)) (sym t) (wrong_byte (record_at f n) b h)))
 
   apply : (e : FileFault) → FileApplies f e → Told e
   apply Shape h = inl (refl, not_shape f h)
   apply (Pair i) h = inr (inl (i, omega arith, omega (arith, h.0), (refl, not_pair f i h.1)))
-  apply (Byte n b) h = inr (inr (n, omega arith, omega (arith, h.0), (b, refl, (b, omega arith, omega (arith, h.1.0), (refl, h.1.1)))))
+  apply (Byte n b) h = inr (inr (n, omega arith, omega (arith, h.0), (b, refl, (b, omega arith, omega (arith, h.1.0), (refl, not_byte (record_at f n) b h.1.1)))))
 
   pub file_lowest : Lowest before (FileApplies f) (file_fault f)
   file_lowest =
       lowest_like before Told (FileApplies f) told apply (file_fault f)
       (lowest_or before ShapeTold (λ e. PairTold e ⊎ FileBytes e)
       (λ e d p q. elim q [
-        | inl w ↦ lower (of_file e) (of_file d) 1 2 (ap (λ x. (of_file x).number) p.0) (ap (λ x. (of_file x).number) w.3.0) (omega arith)
-        | inr w ↦ lower (of_file e) (of_file d) 1 3 (ap (λ x. (of_file x).number) p.0) (ap (λ x. (of_file x).number) w.3.1) (omega arith)
+        | inl w ↦ lower (of_file e) (of_file d) (omega (arith, ap (λ x. (of_file x).number) p.0, ap (λ x. (of_file x).number) w.3.0)) (omega (arith, ap (λ x. (of_file x).number) w.3.0))
+        | inr w ↦ lower (of_file e) (of_file d) (omega (arith, ap (λ x. (of_file x).number) p.0, ap (λ x. (of_file x).number) w.3.1)) (omega (arith, ap (λ x. (of_file x).number) w.3.1))
       ])
       (shape_fault f) (option_or (pair_fault f) (byte_fault f))
       (lowest_unless before (shape_right f) Shape (inr (refl, inr (refl, omega arith))))
       (lowest_or before PairTold FileBytes
-      (λ e d p q. lower (of_file e) (of_file d) 2 3 (ap (λ x. (of_file x).number) p.3.0) (ap (λ x. (of_file x).number) q.3.1) (omega arith))
+      (λ e d p q. lower (of_file e) (of_file d) (omega (arith, ap (λ x. (of_file x).number) p.3.0, ap (λ x. (of_file x).number) q.3.1)) (omega (arith, ap (λ x. (of_file x).number) q.3.1)))
       (pair_fault f) (byte_fault f) pair_lowest (bytes_lowest (record_at f) (at f 0))))
 
 -- a file's fault goes before a graph's
-pub file_rank : (e : FileFault) → rank (of_file e) ≤ 3
-file_rank Shape = omega arith
-file_rank (Pair i) = omega arith
-file_rank (Byte n b) = omega arith
+pub file_number : (e : FileFault) → (of_file e).number ≤ 3
+file_number Shape = omega arith
+file_number (Pair i) = omega arith
+file_number (Byte n b) = omega arith
 
-pub graph_rank : (e : GraphFault) → 4 ≤ rank (of_graph e)
-graph_rank (Target n k) = omega arith
-graph_rank (Covered n k) = omega arith
-graph_rank (Short n) = omega arith
+pub graph_number : (e : GraphFault) → 4 ≤ (of_graph e).number
+graph_number (Target n k) = omega arith
+graph_number (Covered n k) = omega arith
+graph_number (Short n) = omega arith
 
-pub graph_ranks : (e : GraphFault) → rank (of_graph e) ≤ 6
-graph_ranks (Target n k) = omega arith
-graph_ranks (Covered n k) = omega arith
-graph_ranks (Short n) = omega arith
+pub graph_numbers : (e : GraphFault) → (of_graph e).number ≤ 6
+graph_numbers (Target n k) = omega arith
+graph_numbers (Covered n k) = omega arith
+graph_numbers (Short n) = omega arith
 
 pub file_below : (e : FileFault) (d : GraphFault) → NotAfter (of_file e) (of_graph d)
-file_below e d = inl (omega (arith, file_rank e, graph_rank d))
+file_below e d = lower (of_file e) (of_graph d) (omega (arith, file_number e, graph_number d)) (omega (arith, graph_numbers d))
 
 module _ (minimum : Kind → ℕ) (f : List ℕ) where
   abbrev order : ReadFault → ReadFault → Type 0

@@ -1,11 +1,11 @@
 -- The encoding of a sound graph is read as the same graph.
-use Rattle.std.specs.Option.{option_map}
-use Rattle.std.proofs.Common.{◌≡◌, ℕ, zero, suc, ◌+◌, ◌-◌, ◌*◌, ◌/◌, ◌%◌, ◌<◌, ◌≤◌, true, cond, ◌||◌, eqb, ltb, List, [], ◌∷◌, ◌++◌, length, get_or, take, drop, None, Ok, sym, refl, ap, ◌∙◌, subst, ap₂, inl, inr, add-zero, arith}
+use Rattle.std.specs.Option.{option_or, option_map}
+use Rattle.std.proofs.Common.{◌≡◌, ℕ, zero, suc, ◌+◌, ◌-◌, ◌*◌, ◌/◌, ◌%◌, ◌<◌, ◌≤◌, true, cond, ◌||◌, eqb, ltb, List, [], ◌∷◌, ◌++◌, map, length, get_or, take, drop, None, Ok, Option, sym, refl, ap, ◌∙◌, subst, ap₂, inl, inr, add-zero, arith}
 use Rattle.std.specs.List.{flat_map}
 use Rattle.std.proofs.lemmas.Bool.{and_from, and_parts, le-leb, leb-true, eq-eqb, ne_eqb, lt-ltb, or_left, or_right, cond-false, cases_lt}
-use Rattle.std.proofs.lemmas.List.{get_or-append_right, get_or-take, get_or-drop, take-take, take_at, take_all}
+use Rattle.std.proofs.lemmas.List.{get_or-append_right, get_or-take, get_or-drop, take-take, take_at, take_all, map-id}
 use Rattle.std.proofs.lemmas.List.FromFn.{fill_by_all}
-use Rattle.refusals.specs.Searching.{unless}
+use Rattle.refusals.specs.Searching.{first_told, unless}
 use Rattle.refusals.proofs.Searching.{none_of, holds}
 use Rattle.headers.specs.declared.kinds.Kind.{Kind}
 use Rattle.headers.specs.declared.kinds.Kind.TheVariants.{Ethernet}
@@ -21,12 +21,12 @@ use Rattle.graphs.specs.View.{RowsView, ternary_rows, range_rows, NodeView, row_
 use Rattle.graphs.specs.Checking.{graph_fault}
 use Rattle.graph_reader.specs.declared.fault.FileFault.TheVariants.{Shape, Pair, Byte}
 use Rattle.graph_reader.specs.Records.{at, at2, at4, right}
-use Rattle.graph_reader.specs.Encoding.{length_bytes, place_bytes, target_bytes, ternary_bytes, range_bytes, sort_byte, row_bytes, record_of, record_length, encode}
-use Rattle.graph_reader.specs.Files.{offset, size, begins, shape_right, pair_right, record_at, first_wrong, pair_fault, record_fault, byte_fault}
+use Rattle.graph_reader.specs.Encoding.{length_bytes, place_bytes, target_bytes, ternary_bytes, range_bytes, sort_byte, row_bytes, record_with, record_of, record_length, encode}
+use Rattle.graph_reader.specs.Files.{offset, size, begins, pair_right, record_at, first_wrong, shape_fault, pair_fault, record_fault, byte_fault}
 use Rattle.graph_reader.specs.Decoding.{target_in, ternary_in, range_in, each_row, node_in, nodes_in}
 use Rattle.graph_reader.specs.Reading.{reading}
 use Rattle.graph_reader.proofs.Refused.{reading_graph}
-use Rattle.graph_reader.proofs.Places.{ternary_length, range_length, row_at, head, record_parts, places_length, head_length, record_long, sizes, sizes_next, sizes_within, start, file_long, offset_is, size_is, record_is, two_back}
+use Rattle.graph_reader.proofs.Places.{ternary_length, range_length, row_at, head, record_parts, places_length, head_length, record_long, sizes, sizes_next, sizes_within, file_with, many, start, file_long, shown_at, offset_is, size_is, record_is, two_back}
 
 four_back : (n : ℕ) → n / 16777216 * 16777216 + n / 65536 % 256 * 65536 + n / 256 % 256 * 256 + n % 256 ≡ n
 four_back n = omega arith
@@ -127,120 +127,159 @@ rows_read front e (ternary_rows rs) r s =
 rows_read front e (range_rows rs) r s =
     ap range_rows (ap (λ r. each_row (range_in r) (length rs)) s ∙ rows_back range_bytes range_length range_in range_back front e rs (range 0 0 Done))
 
-module _ (v : NodeView) where
+-- a record under the counts that are given
+module _ (places rows : ℕ) (v : NodeView) where
   abbrev place : ℕ → ℕ
   place j = at (place_bytes v.places) j
 
   abbrev written_out : List ℕ
-  written_out = spelt v.kind v.len (length v.places) (place 0) (place 1) (place 2) (place 3) (sort_byte v.rows) (row_count v.rows) (row_bytes v.rows)
+  written_out = spelt v.kind v.len places (place 0) (place 1) (place 2) (place 3) (sort_byte v.rows) rows (row_bytes v.rows)
 
-  record_spelt : record_of v ≡ written_out
+  record_spelt : record_with places rows v ≡ written_out
   record_spelt =
-      ap (λ ps. kind_number v.kind ∷ (length_bytes v.len ++ (length v.places ∷ (ps ++ (sort_byte v.rows ∷ row_count v.rows ∷ 0 ∷ row_bytes v.rows)))))
+      ap (λ ps. kind_number v.kind ∷ (length_bytes v.len ++ (places ∷ (ps ++ (sort_byte v.rows ∷ rows ∷ 0 ∷ row_bytes v.rows)))))
       (four_list (place_bytes v.places) (places_length v.places))
 
-  pub place_count : at (record_of v) 8 ≡ length v.places
+  pub place_count : at (record_with places rows v) 8 ≡ places
   place_count = ap (λ r. at r 8) record_spelt ∙ count_at v.kind v.len _ _ _ _ _ _ _ _
 
-  pub row_count_lem : at (record_of v) 14 ≡ row_count v.rows
+  pub row_count_lem : at (record_with places rows v) 14 ≡ rows
   row_count_lem = ap (λ r. at r 14) record_spelt ∙ rows_at v.kind v.len _ _ _ _ _ _ _ _
 
-  -- a record is read as the node that it encodes
-  pub node_back : length v.places ≤ 4 → node_in (record_of v) ≡ v
-  node_back h =
-      let rows = cond (eqb (sort_byte v.rows) 0) (ternary_rows (each_row (ternary_in written_out) (row_count v.rows))) (range_rows (each_row (range_in written_out) (row_count v.rows))) in
-      ap node_in record_spelt ∙ node_read v.kind v.len _ _ _ _ _ _ _ _
-      ∙ ap₂ (λ k ps. node k v.len ps rows) (kind_back v.kind) (ap (take (length v.places)) (sym (four_list (place_bytes v.places) (places_length v.places))) ∙ places_back v.places h)
-      ∙ ap (node v.kind v.len v.places) (rows_read (head v) (head_length v) v.rows written_out (sym record_spelt ∙ record_parts v))
+  module _ (w : first_wrong (record_with places rows v) ≡ None) where
+    each : (j : ℕ) → j < 16 → right (record_with places rows v) j ≡ true
+    each j h = holds (right (record_with places rows v)) (λ b. b) (length (record_with places rows v)) j w (omega (arith, record_long places rows v))
 
-  module _ (w : first_wrong (record_of v) ≡ None) where
-    each : (j : ℕ) → j < length (record_of v) → right (record_of v) j ≡ true
-    each j h = holds (right (record_of v)) (λ b. b) (length (record_of v)) j w h
-
-    long : 16 ≤ length (record_of v)
-    long = omega (arith, record_long v)
-
-    pub few_places : length v.places ≤ 4
+    pub few_places : places ≤ 4
     unfolding right
-    few_places = subst (λ b. b ≤ 4) place_count (leb-true _ _ (each 8 (omega (arith, long))))
+    few_places = subst (λ b. b ≤ 4) place_count (leb-true _ _ (each 8 (omega arith)))
 
-    pub few_rows : row_count v.rows ≤ 16
+    pub few_rows : rows ≤ 16
     unfolding right
-    few_rows = subst (λ b. b ≤ 16) row_count_lem (leb-true _ _ (and_parts _ _ (each 14 (omega (arith, long)))).1)
+    few_rows = subst (λ b. b ≤ 16) row_count_lem (leb-true _ _ (and_parts _ _ (each 14 (omega arith))).1)
+
+-- a record is read as the node that it encodes
+node_back : (v : NodeView) → length v.places ≤ 4 → node_in (record_of v) ≡ v
+node_back v h =
+    let p = length v.places in
+    let n = row_count v.rows in
+    let r = written_out p n v in
+    let rows = cond (eqb (sort_byte v.rows) 0) (ternary_rows (each_row (ternary_in r) n)) (range_rows (each_row (range_in r) n)) in
+    ap node_in (record_spelt p n v) ∙ node_read v.kind v.len _ _ _ _ _ _ _ _
+    ∙ ap₂ (λ k ps. node k v.len ps rows) (kind_back v.kind) (ap (take p) (sym (four_list (place_bytes v.places) (places_length v.places))) ∙ places_back v.places h)
+    ∙ ap (node v.kind v.len v.places) (rows_read (head p n v) (head_length p n v) v.rows r (sym (record_spelt p n v) ∙ record_parts p n v))
 
 sizes_small : (vs : List NodeView) → ((i : ℕ) → i < length vs → row_count (node_at vs i).rows ≤ 16) → sizes vs ≤ 176 * length vs
 sizes_small [] h = omega arith
 sizes_small (v ∷ vs) h = omega (arith, h 0 (omega arith), sizes_small vs (λ i l. h (suc i) (omega arith)))
 
-module _ (vs : List NodeView) (some : 1 ≤ length vs) (few : length vs ≤ 32) (sound : (i : ℕ) → i < length vs → first_wrong (record_of (node_at vs i)) ≡ None) where
+-- searches that tell the same at each place
+told_same : {X : Type 0} (f g : ℕ → Option X) (k i : ℕ) → ((j : ℕ) → i ≤ j → j < i + k → f j ≡ g j) → first_told f i k ≡ first_told g i k
+told_same f g zero i h = refl
+told_same f g (suc k) i h = ap₂ option_or (h i (omega arith) (omega arith)) (told_same f g k (i + 1) (λ j l m. h j (omega arith) (omega arith)))
+
+-- A file of 1 to 32 records, each with its own row count, which is at most 16: its shape and its pairs are right
+module _ {X : Type 0} (view : X → NodeView) (bytes : X → List ℕ) (long : (x : X) → length (bytes x) ≡ record_length (view x))
+    (xs : List X) (d : X) {vs : List NodeView} (shown : map view xs ≡ vs) (some : 1 ≤ length vs) (few : length vs ≤ 32)
+    (rows : (i : ℕ) → i < length xs → (row_count (view (get_or xs i d)).rows ≤ 16) × (at (bytes (get_or xs i d)) 14 ≡ row_count (view (get_or xs i d)).rows)) where
   abbrev file : List ℕ
-  file = encode vs
+  file = file_with view bytes long xs shown
+
+  within : (i : ℕ) → i < length vs → i < length xs
+  within i h = omega (arith, many view bytes long xs shown)
 
   small : sizes vs ≤ 176 * length vs
-  small = sizes_small vs (λ i h. few_rows (node_at vs i) (sound i h))
+  small = sizes_small vs (λ i h. subst (λ v. row_count v.rows ≤ 16) (sym (shown_at view bytes long xs shown i h d blank)) (rows i (within i h)).0)
 
-  shape_right_lem : shape_right file ≡ true
-  shape_right_lem =
-      and_from _ _ (le-leb 2 (length file) (omega (arith, file_long vs)))
-      (and_from _ _ (le-leb (length file) 5762 (omega (arith, file_long vs, small)))
-      (and_from _ _ (le-leb 1 (length vs) some) (and_from _ _ (le-leb (length vs) 32 few) refl)))
+  pub shape_clear : shape_fault file ≡ None
+  shape_clear =
+      ap (λ t. unless t Shape)
+      (and_from _ _ (le-leb 2 (length file) (omega (arith, file_long view bytes long xs shown)))
+      (and_from _ _ (le-leb (length file) 5762 (omega (arith, file_long view bytes long xs shown, small)))
+      (and_from _ _ (le-leb 1 (length vs) some) (and_from _ _ (le-leb (length vs) 32 few) refl))))
 
-  next : (i : ℕ) → i < length vs → start vs i + record_length (node_at vs i) ≡ start vs (suc i)
-  next i h = omega (arith, sizes_next vs i blank h)
-
-  begun : (i : ℕ) → i < length vs → offset file i ≡ begins file i
-  begun zero h = offset_is vs 0 blank h ∙ add-zero (2 + 4 * length vs)
-  begun (suc k) h =
-      let l : k < length vs = omega arith in
-      let back : k ≡ suc k - 1 = omega arith in
-      offset_is vs (suc k) blank h ∙ sym (next k l) ∙ sym (ap₂ (λ a b. a + b) (offset_is vs k blank l) (size_is vs k blank l))
-      ∙ ap (λ j. offset file j + size file j) back ∙ sym (cond-false (eqb (suc k) 0) _ _ (ne_eqb (suc k) 0 (λ z. omega arith)))
+  abbrev begin : ℕ → ℕ
+  begin i = start view bytes long xs shown i
 
   module _ (i : ℕ) (h : i < length vs) where
-    ends : offset file i + size file i ≡ start vs (suc i)
-    ends = ap₂ (λ a b. a + b) (offset_is vs i blank h) (size_is vs i blank h) ∙ next i h
+    abbrev here : X
+    here = get_or xs i d
 
-    within : offset file i + size file i ≤ length file
-    within = omega (arith, ends, file_long vs, sizes_within vs (suc i))
+    size_lem : size file i ≡ record_length (view here)
+    size_lem = size_is view bytes long xs shown i h d
+
+    pub ends : offset file i + size file i ≡ begin (suc i)
+    ends =
+        let e = shown_at view bytes long xs shown i h d blank in
+        omega (arith, offset_is view bytes long xs shown i h d, size_lem, sizes_next vs i blank h, ap record_length e)
+
+    inside : offset file i + size file i ≤ length file
+    inside = omega (arith, ends, file_long view bytes long xs shown, sizes_within vs (suc i))
 
     counted : size file i ≡ 16 + 10 * at file (offset file i + 14)
     counted =
-        let l : 14 < size file i = omega (arith, size_is vs i blank h) in
-        let read : at file (offset file i + 14) ≡ row_count (node_at vs i).rows =
+        let l : 14 < size file i = omega (arith, size_lem) in
+        let read : at file (offset file i + 14) ≡ row_count (view here).rows =
         sym (get_or-drop (offset file i) file 14 0) ∙ sym (get_or-take (size file i) (drop (offset file i) file) 14 0 l)
-        ∙ ap (λ r. at r 14) (record_is vs i blank h) ∙ row_count_lem (node_at vs i) in
-        omega (arith, size_is vs i blank h, read)
+        ∙ ap (λ r. at r 14) (record_is view bytes long xs shown i h d) ∙ (rows i (within i h)).1 in
+        omega (arith, size_lem, read)
 
     last : (ltb (i + 1) (at file 0) || eqb (offset file i + size file i) (length file)) ≡ true
     last = elim (cases_lt (i + 1) (length vs)) [
       | inl l ↦ or_left _ _ (lt-ltb (i + 1) (length vs) l)
       | inr l ↦
           let all : sizes (take (suc i) vs) ≡ sizes vs = ap sizes (take_all (suc i) vs (omega arith)) in
-          let done : offset file i + size file i ≡ length file = omega (arith, ends, file_long vs, all) in
+          let done : offset file i + size file i ≡ length file = omega (arith, ends, file_long view bytes long xs shown, all) in
           or_right (ltb (i + 1) (length vs)) _ (eq-eqb _ _ done)
     ]
 
-    pair_right_lem : pair_right file i ≡ true
-    unfolding pair_right
-    pair_right_lem =
-        and_from _ _ (le-leb (6 + 4 * i) (length file) (omega (arith, file_long vs)))
-        (and_from _ _ (eq-eqb _ _ (begun i h))
-        (and_from _ _ (le-leb _ _ within) (and_from _ _ (eq-eqb _ _ counted) last)))
+  begun : (i : ℕ) → i < length vs → offset file i ≡ begins file i
+  begun zero h = offset_is view bytes long xs shown 0 h d ∙ add-zero (2 + 4 * length vs)
+  begun (suc k) h =
+      let back : k ≡ suc k - 1 = omega arith in
+      offset_is view bytes long xs shown (suc k) h d ∙ sym (ends k (omega arith))
+      ∙ ap (λ j. offset file j + size file j) back ∙ sym (cond-false (eqb (suc k) 0) _ _ (ne_eqb (suc k) 0 (λ z. omega arith)))
 
-    record_clear : record_fault file i ≡ None
-    record_clear = ap (λ r. option_map (Byte i) (first_wrong r)) (record_is vs i blank h) ∙ ap (option_map (Byte i)) (sound i h)
+  pair_right_lem : (i : ℕ) → i < length vs → pair_right file i ≡ true
+  unfolding pair_right
+  pair_right_lem i h =
+      and_from _ _ (le-leb (6 + 4 * i) (length file) (omega (arith, file_long view bytes long xs shown)))
+      (and_from _ _ (eq-eqb _ _ (begun i h))
+      (and_from _ _ (le-leb _ _ (inside i h)) (and_from _ _ (eq-eqb _ _ (counted i h)) (last i h))))
 
-  pairs_clear : pair_fault file ≡ None
+  pub pairs_clear : pair_fault file ≡ None
   pairs_clear = none_of (λ i. unless (pair_right file i) (Pair i)) (length vs) 0 (λ i l m. ap (λ t. unless t (Pair i)) (pair_right_lem i (omega arith)))
 
-  bytes_clear : byte_fault file ≡ None
-  bytes_clear = none_of (record_fault file) (length vs) 0 (λ i l m. record_clear i (omega arith))
+  -- what is told of its bytes is told of the records themselves
+  pub bytes_told : byte_fault file ≡ first_told (λ i. option_map (Byte i) (first_wrong (bytes (get_or xs i d)))) 0 (length xs)
+  bytes_told =
+      ap (first_told (record_fault file) 0) (many view bytes long xs shown)
+      ∙ told_same (record_fault file) _ (length xs) 0
+      (λ i l m. ap (λ r. option_map (Byte i) (first_wrong r)) (record_is view bytes long xs shown i (omega (arith, many view bytes long xs shown)) d))
 
-  nodes_back : nodes_in file ≡ vs
+module _ (vs : List NodeView) (some : 1 ≤ length vs) (few : length vs ≤ 32) (sound : (i : ℕ) → i < length vs → first_wrong (record_of (node_at vs i)) ≡ None) where
+  long : (v : NodeView) → length (record_of v) ≡ record_length v
+  long v = record_long (length v.places) (row_count v.rows) v
+
+  same : map (λ v. v) vs ≡ vs
+  same = map-id vs
+
+  rows : (i : ℕ) → i < length vs → (row_count (node_at vs i).rows ≤ 16) × (at (record_of (node_at vs i)) 14 ≡ row_count (node_at vs i).rows)
+  rows i h = let v = node_at vs i in (few_rows (length v.places) (row_count v.rows) v (sound i h), row_count_lem (length v.places) (row_count v.rows) v)
+
+  bytes_clear : byte_fault (encode vs) ≡ None
+  bytes_clear =
+      bytes_told (λ v. v) record_of long vs blank same some few rows
+      ∙ none_of (λ i. option_map (Byte i) (first_wrong (record_of (get_or vs i blank)))) (length vs) 0 (λ i l m. ap (option_map (Byte i)) (sound i (omega arith)))
+
+  pub nodes_back : nodes_in (encode vs) ≡ vs
   nodes_back =
-      sym (fill_by_all (λ i. node_in (record_at file i)) vs (length vs) blank refl
-      (λ i h. sym (ap node_in (record_is vs i blank h) ∙ node_back (node_at vs i) (few_places (node_at vs i) (sound i h)))))
+      sym (fill_by_all (λ i. node_in (record_at (encode vs) i)) vs (length vs) blank refl
+      (λ i h.
+      let v = node_at vs i in
+      sym (ap node_in (record_is (λ v. v) record_of long vs same i h blank) ∙ node_back v (few_places (length v.places) (row_count v.rows) v (sound i h)))))
 
-  pub reads_back : (minimum : Kind → ℕ) → graph_fault minimum vs ≡ None → reading minimum file ≡ Ok vs
+  pub reads_back : (minimum : Kind → ℕ) → graph_fault minimum vs ≡ None → reading minimum (encode vs) ≡ Ok vs
   reads_back minimum g =
-      sym (reading_graph minimum file (sym (ap (λ t. unless t Shape) shape_right_lem)) (sym pairs_clear) (sym bytes_clear) vs (sym nodes_back) None (sym g))
+      sym (reading_graph minimum (encode vs) (sym (shape_clear (λ v. v) record_of long vs blank same some few rows)) (sym (pairs_clear (λ v. v) record_of long vs blank same some few rows))
+      (sym bytes_clear) vs (sym nodes_back) None (sym g))

@@ -1,4 +1,5 @@
--- The file as a whole: its shape, its pairs and the records that they name.
+-- The file as a whole: where its pairs say that a record lies, and the checks of shape, pairs and records as tests. The tests are
+-- proved to find what `Refusals` says in words, so nothing need be believed of them.
 use Rattle.std.specs.Option.{option_or, option_map}
 use Rattle.std.specs.Prelude.{ℕ, ◌+◌, ◌-◌, ◌*◌, Bool, cond, ◌&&◌, ◌||◌, List, length, take, drop, Option, ◌==◌, nat_le, nat_lt}
 use Rattle.graph_reader.specs.declared.fault.FileFault.{FileFault}

@@ -19,7 +19,8 @@ use headers::table::KindTable;
 pub const MOST_BYTES: usize = 5762;
 
 /// The graph of a file: the one whose encoding the file is. Refused by 1 to 6, the lowest number
-/// first, then the lowest node, then the lowest row or byte.
+/// first, then the lowest node, then the lowest row or byte. Free: what stands behind the counts of
+/// the graph; of all calls only `Graph::node`, which hands a node out as it is, shows any of it.
 pub fn read_graph(file: &[u8]) -> Result<Graph, ReadFault>
     ensures is { seen result ≡ reading (minimum_in standard_table) file.now }
     ensures answers { Answers of_read (Applies (minimum_in standard_table) file.now) (λ nodes. encode nodes ≡ file.now) (seen result) }
@@ -28,7 +29,7 @@ pub fn read_graph(file: &[u8]) -> Result<Graph, ReadFault>
     read_graph_by(&KindTable::standard(), file)
 }
 
-/// The graph of a file, its lengths checked by a given table of kinds.
+/// The graph of a file, its lengths checked by a given table of kinds; the same is free.
 pub fn read_graph_by(table: &KindTable, file: &[u8]) -> Result<Graph, ReadFault>
     ensures is { seen result ≡ reading (minimum_in table.now) file.now }
     ensures answers { Answers of_read (Applies (minimum_in table.now) file.now) (λ nodes. encode nodes ≡ file.now) (seen result) }

@@ -9,8 +9,8 @@ ghost use Rattle.graph_reader.specs.declared.fault.FileFault.TheVariants.{Byte};
 use crate::fault::FileFault;
 use octets::read::{byte_at, number2, number4};
 
-/// The place of the first byte of a record that is out of its range.
-pub fn first_wrong(bytes: &[u8]) -> Option<usize>
+// The place of the first byte of a record that is out of its range.
+fn first_wrong(bytes: &[u8]) -> Option<usize>
     ensures is { result ≡ first_wrong bytes.now }
     ensures within { IfSome result (λ i. i < length bytes.now) }
 {
@@ -19,6 +19,7 @@ pub fn first_wrong(bytes: &[u8]) -> Option<usize>
 
 /// Whether each byte of a node's record is in its range. Refused by 3, at the first that is not:
 /// by the lowest 16 bits of its place, which are all of it in a record of at most 65536 bytes.
+/// Public for the crate `graph_writer`, which checks the records that it is about to write.
 pub fn check_record(node: u8, bytes: &[u8]) -> Result<(), FileFault>
     ensures is { fault_of result ≡ option_map (λ i. Byte node (i % 2 ^ 16)) (first_wrong bytes.now) }
     ensures brief { length bytes.now ≤ 2 ^ 16 → fault_of result ≡ option_map (Byte node) (first_wrong bytes.now) }

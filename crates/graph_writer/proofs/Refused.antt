@@ -3,8 +3,9 @@ use Rattle.std.specs.Option.{option_or, option_map}
 use Rattle.std.proofs.Common.{◌≡◌, ℕ, false, ◌&&◌, leb, ◌⊎◌, List, length, take, Some, None, Option, Result, sym, refl, ap, subst, inl, inr, arith}
 use Rattle.std.proofs.lemmas.Bool.{and_cases, and_left, and_right, leb-false, lt-leb}
 use Rattle.refusals.specs.Searching.{unless, unless_fault}
-use Rattle.refusals.specs.Least.{rank, NotAfter, Answers}
+use Rattle.refusals.specs.Least.{NotAfter, Answers}
 use Rattle.refusals.proofs.Lowest.{Lowest, lowest_like, lowest_or, lowest_unless, lowest_mapped}
+use Rattle.refusals.proofs.Ranking.{lower}
 use Rattle.headers.specs.declared.kinds.Kind.{Kind}
 use Rattle.graphs.specs.declared.graph.Graph.{Graph}
 use Rattle.graphs.specs.declared.graph.Node.{Node}
@@ -15,9 +16,10 @@ use Rattle.graphs.specs.Checking.{graph_fault}
 use Rattle.graphs.proofs.Refused.{graph_lowest}
 use Rattle.graph_reader.specs.declared.fault.FileFault.{FileFault}
 use Rattle.graph_reader.specs.declared.fault.FileFault.TheVariants.{Shape, Pair, Byte}
-use Rattle.graph_reader.specs.Records.{right}
+use Rattle.graph_reader.specs.Refusals.{OutOfRange}
 use Rattle.graph_reader.specs.Faults.{of_file}
-use Rattle.graph_reader.proofs.Refused.{before, file_below, file_rank, graph_ranks, ByteTold, bytes_lowest}
+use Rattle.graph_reader.proofs.Ranges.{wrong_byte, not_byte}
+use Rattle.graph_reader.proofs.Refused.{before, file_below, file_number, graph_numbers, ByteTold, bytes_lowest}
 use Rattle.graph_writer.specs.declared.fault.WriteFault.{WriteFault}
 use Rattle.graph_writer.specs.declared.fault.WriteFault.TheVariants.{File, Graph as InGraph, Area}
 use Rattle.graph_writer.specs.Faults.{of_write}
@@ -40,19 +42,20 @@ module _ (g : Graph) where
     | inr a ↦ inr (leb-false g.count 32 a)
   ])
   into_record e (inr (n, z, l, (x, s, (b, y, m, (t, h))))) =
-      subst (RecordApplies g) (sym s) (omega arith, omega arith, subst (λ b. right (record_for (node_of nodes n)) b ≡ false) (sym t) h)
+      let r = record_for (node_of nodes n) in
+      subst (RecordApplies g) (sym s) (omega arith, omega arith, subst (OutOfRange r) (sym t) (wrong_byte r b h))
 
   from_record : (e : FileFault) → RecordApplies g e → CountTold e ⊎ RecordsTold e
   from_record Shape (inl h) = inl (refl, and_left _ (leb g.count 32) (lt-leb 1 g.count (omega arith)))
   from_record Shape (inr h) = inl (refl, and_right (leb 1 g.count) _ (lt-leb g.count 32 h))
   from_record (Pair i) h = absurd h
-  from_record (Byte n b) h = inr (n, omega arith, omega (arith, h.0), (b, refl, (b, omega arith, omega (arith, h.1), (refl, h.2))))
+  from_record (Byte n b) h = inr (n, omega arith, omega (arith, h.0), (b, refl, (b, omega arith, omega (arith, h.1), (refl, not_byte (record_for (node_of nodes n)) b h.2))))
 
   record_lowest : Lowest before (RecordApplies g) (option_or (count_fault g) (records_fault nodes))
   record_lowest =
       lowest_like before (λ e. CountTold e ⊎ RecordsTold e) (RecordApplies g) into_record from_record (option_or (count_fault g) (records_fault nodes))
       (lowest_or before CountTold RecordsTold
-      (λ e d p q. inl (omega (arith, ap (λ x. rank (of_file x)) p.0, ap (λ x. rank (of_file x)) q.3.1)))
+      (λ e d p q. lower (of_file e) (of_file d) (omega (arith, ap (λ x. (of_file x).number) p.0, ap (λ x. (of_file x).number) q.3.1)) (omega (arith, ap (λ x. (of_file x).number) q.3.1)))
       (count_fault g) (records_fault nodes)
       (lowest_unless before (leb 1 g.count && leb g.count 32) Shape (inr (refl, inr (refl, omega arith))))
       (bytes_lowest (λ n. record_for (node_of nodes n)) (length nodes)))
@@ -95,12 +98,12 @@ module _ (minimum : Kind → ℕ) (g : Graph) (room : ℕ) where
       (lowest_or order InRecords (λ e. OfGraph e ⊎ OfArea e)
       (λ e d p q. elim q [
         | inl w ↦ subst (λ e. order e d) (sym p.1) (subst (order (File p.0)) (sym w.1) (file_below p.0 w.0))
-        | inr w ↦ inl (omega (arith, ap (λ x. rank (of_write x)) p.1, file_rank p.0, ap (λ x. rank (of_write x)) w.0))
+        | inr w ↦ lower (of_write e) (of_write d) (omega (arith, ap (λ x. (of_write x).number) p.1, file_number p.0, ap (λ x. (of_write x).number) w.0)) (omega (arith, ap (λ x. (of_write x).number) w.0))
       ])
       (option_map File (option_or (count_fault g) (records_fault (nodes g)))) (option_or (option_map InGraph (graph_fault minimum (graph_view g))) (unless (leb 5762 room) Area))
       (lowest_mapped order File (RecordApplies g) (option_or (count_fault g) (records_fault (nodes g))) (record_lowest g))
       (lowest_or order OfGraph OfArea
-      (λ e d p q. inl (omega (arith, ap (λ x. rank (of_write x)) p.1, graph_ranks p.0, ap (λ x. rank (of_write x)) q.0)))
+      (λ e d p q. lower (of_write e) (of_write d) (omega (arith, ap (λ x. (of_write x).number) p.1, graph_numbers p.0, ap (λ x. (of_write x).number) q.0)) (omega (arith, ap (λ x. (of_write x).number) q.0)))
       (option_map InGraph (graph_fault minimum (graph_view g))) (unless (leb 5762 room) Area)
       (lowest_mapped order InGraph (GraphApplies minimum (graph_view g)) (graph_fault minimum (graph_view g)) (graph_lowest minimum (graph_view g)))
       (lowest_unless order (leb 5762 room) Area (inr (refl, inr (refl, omega arith)))))))

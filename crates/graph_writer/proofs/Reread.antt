@@ -16,8 +16,17 @@ use Rattle.graph_reader.specs.Encoding.{record_of}
 use Rattle.graph_reader.specs.Files.{first_wrong}
 use Rattle.graph_reader.proofs.Reread.{reads_back}
 use Rattle.graph_writer.specs.declared.fault.WriteFault.TheVariants.{File, Graph as InGraph, Area}
-use Rattle.graph_writer.specs.Writing.{record_for, node_of, record_fault_at, count_fault, records_fault, write_fault, Writable}
+use Rattle.graph_writer.specs.Writing.{record_for, node_of, record_fault_at, count_fault, records_fault, write_fault, Standing, Writable}
 use Rattle.graph_writer.specs.Refusals.{ReadsBack}
+
+-- records that stand, with nothing to tell of them
+module _ (g : Graph) (records : records_fault (take g.count g.nodes) ≡ None) (stand : Standing (take g.count g.nodes)) where
+  pub right_record : (i : ℕ) → i < length (graph_view g) → first_wrong (record_of (node_at (graph_view g) i)) ≡ None
+  right_record i h =
+      let nodes : List Node = take g.count g.nodes in
+      let l : i < length nodes = omega (arith, length-map nodes node_view) in
+      ap (λ v. first_wrong (record_of v)) (node_at_lem nodes refl i no_node l) ∙ ap first_wrong (sym (stand i l))
+      ∙ option_map_none (Byte i) (first_wrong (record_for (node_of nodes i))) (nowhere (record_fault_at nodes) (length nodes) 0 records i (omega arith) (omega arith))
 
 module _ (minimum : Kind → ℕ) (g : Graph) (room : ℕ) (clear : write_fault minimum g room ≡ None) (w : Writable g room) where
   abbrev nodes : List Node
@@ -42,11 +51,5 @@ module _ (minimum : Kind → ℕ) (g : Graph) (room : ℕ) (clear : write_fault 
   many : length views ≡ g.count
   many = length-map nodes node_view ∙ w.full
 
-  right_record : (i : ℕ) → i < length views → first_wrong (record_of (node_at views i)) ≡ None
-  right_record i h =
-      let l : i < length nodes = omega (arith, length-map nodes node_view) in
-      ap (λ v. first_wrong (record_of v)) (node_at_lem nodes refl i no_node l) ∙ ap first_wrong (sym (w.stand i l))
-      ∙ option_map_none (Byte i) (first_wrong (record_for (node_of nodes i))) (nowhere (record_fault_at nodes) (length nodes) 0 records i (omega arith) (omega arith))
-
   pub written_reads_back : ReadsBack minimum views
-  written_reads_back = reads_back views (omega (arith, many, some)) (omega (arith, many, w.few)) right_record minimum sound_graph
+  written_reads_back = reads_back views (omega (arith, many, some)) (omega (arith, many, w.few)) (right_record g records w.stand) minimum sound_graph

@@ -1,5 +1,5 @@
 -- A graph's file part by part, as it is put into an area.
-use Rattle.std.specs.Prelude.{◌≡◌, ℕ, ◌+◌, ◌*◌, ◌≤◌, cond, List, [], ◌∷◌, ◌++◌, map, length, take, drop, nat_lt, slice_index}
+use Rattle.std.specs.Prelude.{◌≡◌, ℕ, ◌+◌, ◌*◌, ◌≤◌, cond, List, [], ◌∷◌, ◌++◌, map, length, nat_lt, slice_index}
 use Rattle.std.specs.List.{flat_map}
 use Rattle.headers.specs.Kinds.{kind_number}
 use Rattle.graphs.specs.declared.graph.Node.{Node}

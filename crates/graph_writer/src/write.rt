@@ -6,7 +6,7 @@ ghost use Rattle.graphs.specs.View.{node_view, graph_view};
 ghost use Rattle.graph_reader.specs.Encoding.{record_of, encode};
 ghost use Rattle.refusals.specs.Least.{Answers};
 ghost use Rattle.graph_writer.specs.Faults.{of_write};
-ghost use Rattle.graph_writer.specs.Refusals.{WriteApplies, ReadsBack};
+ghost use Rattle.graph_writer.specs.Refusals.{WriteApplies, ReadsBack, FaultAsRead, AnswersAsRead};
 ghost use Rattle.graph_writer.specs.Writing.{record_for, node_byte_fault, records_fault, count_fault, write_fault, area_after, Standing, Writable};
 
 use crate::fault::WriteFault;
@@ -19,12 +19,14 @@ use graphs::graph::{Graph, Node};
 use headers::table::KindTable;
 
 /// Writes a graph's file to the front of an area, and answers the file's length. Refused by 1 and 3
-/// to 6 as the file would be, then by 11 if the area has not room for the longest file; a refused
-/// call changes nothing, and the area behind the file stays. The file reads back as the same graph.
+/// to 6 as the file would be (where the counts make one, as reading the graph's own file), then by
+/// 11 if the area has not room for the longest file; a refused call changes nothing, and the area
+/// behind the file stays. The file reads back as the same graph.
 pub fn write_graph(graph: &Graph, area: &mut [u8]) -> Result<usize, WriteFault>
     ensures is { result ≡ unless_fault (write_fault (minimum_in standard_table) graph.now (length area.old)) (length (encode (graph_view graph.now))) }
     ensures area { area.new ≡ area_after (write_fault (minimum_in standard_table) graph.now (length area.old)) (encode (graph_view graph.now)) area.old }
     ensures answers { Answers of_write (WriteApplies (minimum_in standard_table) graph.now (length area.old)) (λ _. ReadsBack (minimum_in standard_table) (graph_view graph.now)) result }
+    ensures as_read { AnswersAsRead (minimum_in standard_table) graph.now (length area.old) result }
 {
     write_graph_by(&KindTable::standard(), graph, area)
 }
@@ -38,6 +40,7 @@ pub fn write_graph_by(
     ensures is { result ≡ unless_fault (write_fault (minimum_in table.now) graph.now (length area.old)) (length (encode (graph_view graph.now))) }
     ensures area { area.new ≡ area_after (write_fault (minimum_in table.now) graph.now (length area.old)) (encode (graph_view graph.now)) area.old }
     ensures answers { Answers of_write (WriteApplies (minimum_in table.now) graph.now (length area.old)) (λ _. ReadsBack (minimum_in table.now) (graph_view graph.now)) result }
+    ensures as_read { AnswersAsRead (minimum_in table.now) graph.now (length area.old) result }
 {
     first_fault(table, graph, area.len())?;
     Ok(put_file(graph.named_nodes(), area))
@@ -47,6 +50,7 @@ pub fn write_graph_by(
 fn first_fault(table: &KindTable, graph: &Graph, room: usize) -> Result<(), WriteFault>
     ensures is { fault_of result ≡ write_fault (minimum_in table.now) graph.now room }
     ensures writable { OnOk result (Writable graph.now room) }
+    ensures as_read { FaultAsRead (minimum_in table.now) graph.now room (fault_of result) }
 {
     check_count(graph)?;
     check_records(graph.named_nodes())?;

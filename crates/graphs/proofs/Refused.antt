@@ -4,7 +4,8 @@ use Rattle.std.proofs.Common.{◌≡◌, ℕ, ◌+◌, ◌^◌, ◌<◌, ◌≤�
 use Rattle.std.proofs.lemmas.Bool.{cases_lt, both_ways, lt-ltb, le-ltb, leb-false, lt-leb, and_from, and_left, and_right}
 use Rattle.refusals.specs.Searching.{fault_of}
 use Rattle.refusals.specs.Least.{NotAfter, Answers}
-use Rattle.refusals.proofs.Lowest.{Lowest, lowest_like, lowest_or, lowest_of, lowest_unless, lowest_mapped, lower}
+use Rattle.refusals.proofs.Lowest.{Lowest, lowest_like, lowest_or, lowest_of, lowest_unless, lowest_mapped}
+use Rattle.refusals.proofs.Ranking.{lower}
 use Rattle.headers.specs.declared.kinds.Kind.{Kind}
 use Rattle.patterns.specs.declared.row.Target.{Target as To}
 use Rattle.patterns.specs.declared.row.Target.TheVariants as to
@@ -129,12 +130,12 @@ module _ (minimum : Kind → ℕ) (vs : List NodeView) where
       lowest_like ahead Told (GraphApplies minimum vs) spoken applied (graph_fault minimum vs)
       (lowest_or ahead (Among TargetTold) (λ e. Among CoveredTold e ⊎ Among ShortTold e)
       (λ e d p q. elim q [
-        | inl w ↦ lower (of_graph e) (of_graph d) 4 5 (target_is e p) (covered_is d w) (omega arith)
-        | inr w ↦ lower (of_graph e) (of_graph d) 4 6 (target_is e p) (short_is d w) (omega arith)
+        | inl w ↦ lower (of_graph e) (of_graph d) (omega (arith, target_is e p, covered_is d w)) (omega (arith, covered_is d w))
+        | inr w ↦ lower (of_graph e) (of_graph d) (omega (arith, target_is e p, short_is d w)) (omega (arith, short_is d w))
       ])
       (first_node (target_fault (length vs)) vs) (option_or (first_node covered_fault vs) (first_node (short_fault minimum) vs)) target_lowest
       (lowest_or ahead (Among CoveredTold) (Among ShortTold)
-      (λ e d p q. lower (of_graph e) (of_graph d) 5 6 (covered_is e p) (short_is d q) (omega arith))
+      (λ e d p q. lower (of_graph e) (of_graph d) (omega (arith, covered_is e p, short_is d q)) (omega (arith, short_is d q)))
       (first_node covered_fault vs) (first_node (short_fault minimum) vs) cover_lowest short_lowest))
 
   -- the answer of a check that tells the first fault

@@ -1,4 +1,5 @@
--- The checks of a graph as tests, and the first fault that they find. `Refusals` says the same in words.
+-- The checks of a graph as tests, and the first fault that they find. They are proved to find what `Refusals` says in words, so
+-- nothing need be believed of them.
 use Rattle.std.specs.Option.{option_or, option_map}
 use Rattle.std.specs.Prelude.{ℕ, Bool, true, ◌&&◌, List, length, Option, nat_le, nat_lt}
 use Rattle.refusals.specs.Searching.{first_told, unless}

@@ -1,5 +1,5 @@
 -- A graph as what its counts name. Two graphs are the same if their views are.
-use Rattle.std.specs.Prelude.{◌≡◌, ℕ, ◌<◌, List, [], map, length, take, slice_index_or}
+use Rattle.std.specs.Prelude.{◌≡◌, ℕ, ◌<◌, List, [], map, length, take, slice_index_or, replicate}
 use Rattle.headers.specs.declared.kinds.Kind.{Kind}
 use Rattle.headers.specs.declared.kinds.Kind.TheVariants.{Ethernet}
 use Rattle.patterns.specs.declared.row.Target.{Target}
@@ -33,9 +33,22 @@ rows_view n (Range rs) = range_rows (take n rs)
 abbrev pub node_view : Node → NodeView
 node_view n = record { kind = n.kind; len = n.length; places = take n.place_count n.places; rows = rows_view n.row_count n.rows }
 
--- the node that a list has past its end
+-- what a list of nodes is said to have past its end; no graph has it
 abbrev pub no_node : Node
 no_node = record { kind = Ethernet; length = Fixed 0; place_count = 0; places = []; row_count = 0; rows = Ternary [] }
+
+-- the blank node, which stands past the nodes of a graph: of a fixed length 0, it looks up nothing and has no rows. Behind its counts
+-- stand places of zero and rows of zeros that are done
+abbrev pub blank_node : Node
+blank_node =
+    record {
+      kind = Ethernet;
+      length = Fixed 0;
+      place_count = 0;
+      places = replicate 4 0;
+      row_count = 0;
+      rows = Ternary (replicate 16 (record { value = 0; mask = 0; target = to.Done }));
+    }
 
 -- the nodes that the graph's count names
 abbrev pub graph_view : Graph → List NodeView
@@ -57,6 +70,10 @@ pub record Counts (g : Graph) : Type 0 where
 -- node n of a graph; one without rows where there is none
 abbrev pub node_at : List NodeView → ℕ → NodeView
 node_at vs n = slice_index_or vs n (record { kind = Ethernet; len = Fixed 0; places = []; rows = ternary_rows [] })
+
+-- the same node with what stands behind its counts; the blank node where there is none
+abbrev pub node_itself : Graph → ℕ → Node
+node_itself g n = slice_index_or (take g.count g.nodes) n blank_node
 
 -- the target of row k
 abbrev pub target_of : RowsView → ℕ → Target

@@ -1,6 +1,6 @@
 // The node of a number, and the places that it looks up.
 ghost use Rattle.std.specs.Prelude.{◌≡◌, ◌≤◌, [], length};
-ghost use Rattle.graphs.specs.View.{node_view, graph_view, node_at};
+ghost use Rattle.graphs.specs.View.{node_view, blank_node, graph_view, node_at, node_itself};
 
 use crate::graph::{Graph, Length, Node, PLACES, ROWS, Rows};
 use crate::named::named;
@@ -16,9 +16,10 @@ impl Graph {
         self.named_nodes().len() as u8
     }
 
-    /// The node of a number; the blank node past the nodes that the graph's count names, which are
-    /// at most 32.
+    /// The node of a number, as the graph has it; the blank node past the nodes that the graph's
+    /// count names, which are at most 32.
     pub fn node(&self, number: u8) -> Node
+        ensures whole { result ≡ node_itself self.now number }
         ensures is { node_view result ≡ node_at (graph_view self.now) number }
         ensures few { length (graph_view self.now) ≤ 32 }
     {
@@ -33,7 +34,8 @@ impl Graph {
 impl Node {
     /// The blank node: of a fixed length 0, it looks up nothing and has no rows.
     pub fn blank() -> Node
-        ensures { node_view result ≡ node_at [] 0 }
+        ensures whole { result ≡ blank_node }
+        ensures is { node_view result ≡ node_at [] 0 }
     {
         Node {
             kind: Kind::Ethernet,

@@ -1,5 +1,5 @@
 -- Fields and payload as parts of the packet itself.
-use Rattle.std.specs.Prelude.{◌≡◌, ℕ, ◌+◌, ◌-◌, cond, List, length, take, drop, Some, None, Ok, Err, Option, Result, nat_le}
+use Rattle.std.specs.Prelude.{◌≡◌, ℕ, ◌+◌, ◌-◌, cond, List, length, take, drop, Some, None, Ok, Err, Option, Result, nat_le, ◌≢◌}
 use Rattle.std.specs.Borrow.{Bor}
 use Rattle.headers.specs.declared.faults.PartFault.{PartFault}
 use Rattle.headers.specs.declared.faults.PartFault.TheVariants.{UnknownKind, FieldOutside, PayloadOutside}
@@ -23,6 +23,10 @@ field_within size offset (Some p) = cond (nat_le (offset + p.offset + p.length) 
 -- a field of a mark, by a table of kinds: a kind over 10 is refused first; the mark's node and length do not matter
 abbrev pub field_answer : KindTable → ℕ → Mark → ℕ → Answer
 field_answer t size m n = cond (nat_le m.kind 10) (field_within size m.offset (field_in t (kind_at m.kind) n)) (refused (UnknownKind m.kind))
+
+-- a mark has each field of its kind: whatever number is asked for, the answer is a part of the packet or that there is no such field
+abbrev pub HasItsFields : KindTable → ℕ → Mark → Type 0
+HasItsFields t size m = (n : ℕ) (e : PartFault) → field_answer t size m n ≢ refused e
 
 -- the payload: from an offset to the packet's end, where it is empty
 abbrev pub payload_answer : ℕ → ℕ → Answer

@@ -1,5 +1,5 @@
 -- What is known of each kind: the fewest bytes of its header, and where its fields lie.
-use Rattle.std.specs.Prelude.{ℕ, ◌-◌, cond, List, [], ◌∷◌, ◌++◌, length, replicate, None, Option, nat_lt, slice_index_or}
+use Rattle.std.specs.Prelude.{◌≡◌, ℕ, ◌+◌, ◌-◌, ◌≤◌, cond, List, [], ◌∷◌, ◌++◌, length, replicate, Some, None, Option, nat_lt, slice_index_or}
 use Rattle.std.specs.List.{slice_get}
 use Rattle.headers.specs.declared.kinds.Kind.{Kind}
 use Rattle.headers.specs.declared.kinds.Kind.TheVariants.{Ethernet, Vlan, Mpls, Ipv4, Ipv6, Tcp, Udp, Gre, Icmp, Arp, Other}
@@ -51,3 +51,7 @@ minimum = minimum_in standard_table
 -- where the kind's field of a number lies: none past the kind's list
 abbrev pub field_in : KindTable → Kind → ℕ → Option FieldPlace
 field_in t k n = cond (nat_lt n (row_in t k).field_count) (slice_get (row_in t k).fields n) None
+
+-- the law of a table: every field of a kind lies inside the shortest header of the kind
+abbrev pub FieldsLieInside : KindTable → Type 0
+FieldsLieInside t = (k : Kind) (n : ℕ) (p : FieldPlace) → field_in t k n ≡ Some p → p.offset + p.length ≤ minimum_in t k

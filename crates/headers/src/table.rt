@@ -1,6 +1,6 @@
 ghost use Rattle.std.specs.Prelude.{◌≡◌};
 ghost use Rattle.std.specs.List.{slice_get};
-ghost use Rattle.headers.specs.Table.{row_in, minimum_in, field_in, standard_row, standard_table};
+ghost use Rattle.headers.specs.Table.{row_in, minimum_in, field_in, standard_row, standard_table, FieldsLieInside};
 
 use crate::kinds::Kind;
 
@@ -76,7 +76,8 @@ fn standard_row(kind: Kind) -> KindRow
 impl KindTable {
     /// The built-in table, as the standards say.
     pub fn standard() -> KindTable
-        ensures { result ≡ standard_table }
+        ensures is { result ≡ standard_table }
+        ensures fields { FieldsLieInside result }
     {
         KindTable {
             rows: [

@@ -3,6 +3,5 @@ pub mod Sorts
 pub mod Finding
 pub mod Firsts
 pub mod Splitting
-pub mod Worked
 pub mod Covering
 pub mod BitLaws

@@ -10,4 +10,3 @@ pub mod row;
 pub mod span;
 pub mod split;
 pub mod ternary;
-pub mod worked;

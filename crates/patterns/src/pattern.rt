@@ -15,7 +15,7 @@ pub trait Pattern: Copy {
     /// A row that may make a pattern.
     type Plain: Copy;
 
-    // The keys that there are.
+    // The keys that there are: each key that `fits` takes is one, and each that `sample` answers.
     ghost keys: { Self.Key → Type 0 };
 
     // The pattern that a plain row makes, or none.
@@ -33,7 +33,8 @@ pub trait Pattern: Copy {
 
     /// Whether the key fits. No call is refused.
     fn fits(&self, key: Self::Key) -> bool
-        ensures { result ≡ fits self.now key };
+        ensures is { result ≡ fits self.now key }
+        ensures known { keys key };
 
     /// Whether every key that fits the other fits this one. No call is refused.
     fn covers(&self, other: &Self) -> bool

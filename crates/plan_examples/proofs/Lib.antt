@@ -1,1 +1,2 @@
-pub mod Thirteen
+pub mod Examples
+pub mod Refused

@@ -1,3 +1,4 @@
 pub mod Limits
-pub mod Thirteen
 pub mod LimitsLemmas
+pub mod SampleBytes
+pub mod Worked

@@ -10,7 +10,7 @@ use Rattle.stores.specs.Fits.{fits}
 use Rattle.stores.specs.Meaning.{Meaning, admits, appended}
 use Rattle.stores.specs.Listings.{length_listed}
 use Rattle.stores.specs.Pairs.{admits_same}
-use Rattle.slices.specs.Piled.{of_listing}
+use Rattle.stores.specs.Listed.{of_listing}
 use Rattle.plan_examples.specs.Limits.{limited}
 
 pub listing_length : (s : Tabled Rows 512) → length (of_listing s).rows ≡ s.held

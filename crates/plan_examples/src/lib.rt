@@ -9,4 +9,4 @@ pub mod limited;
 mod made;
 #[cfg(test)]
 mod room;
-pub mod sample;
+pub mod worked;

@@ -1,6 +1,6 @@
 // A store of any capacity up to 512 rows, made for examples.
 ghost use Rattle.std.specs.Prelude.{◌≡◌, ◌≤◌, min};
-ghost use Rattle.slices.specs.Piled.{of_listing};
+ghost use Rattle.stores.specs.Listed.{of_listing};
 ghost use Rattle.plan_examples.specs.Limits.{limited};
 ghost use Rattle.stores.specs.Meaning.{fresh};
 ghost use Rattle.std.proofs.Common.{arith};
@@ -35,7 +35,13 @@ impl Limited {
 impl Store for Limited {
     ghost meaning = { λ s. limited (of_listing s.all) s.limit };
 
-    ghost bounded = { λ s. record { rows_fit = omega (arith, listing_length s.all); capacity_fits = omega arith; takes_fit = omega arith } };
+    ghost bounded = { λ s.
+        record {
+          rows_fit = omega (arith, listing_length s.all);
+          capacity_fits = omega arith;
+          takes_fit = omega arith;
+          questions_fit = s.all.counted;
+        } };
 
     fn wipe(&mut self) {
         self.all.wipe();

@@ -10,42 +10,52 @@ use Rattle.std.proofs.lemmas.List.{get_or-set_same, get_or-set_other, get_or_pas
 use Rattle.std.proofs.lemmas.Bool.{cases_lt, and_left, lt-leb}
 use Rattle.plans.specs.declared.chains.Chain.{Chain}
 use Rattle.plans.specs.declared.chains.Chains.{Chains}
-use Rattle.plans.specs.Chains.{nodes_of, chain_of, chain_at, chain_in}
+use Rattle.plans.specs.Chains.{nodes_of, no_chain, chain_itself, chain_of, chain_at, chain_in}
 use Rattle.plans.specs.Checking.{chain_right}
 
 -- a chain of no nodes in each place, and none past the end
-pub none_anywhere : (x : Chain) → x.count ≡ 0 → (m n : ℕ) → nodes_of (get_or (replicate m x) n (record { count = 0; nodes = [] })) ≡ []
-none_anywhere x e zero n = refl
-none_anywhere x e (suc m) zero = ap (λ k. take k x.nodes) e
-none_anywhere x e (suc m) (suc n) = none_anywhere x e m n
+pub none_anywhere : (m n : ℕ) → get_or (replicate m no_chain) n no_chain ≡ no_chain
+none_anywhere zero n = refl
+none_anywhere (suc m) zero = refl
+none_anywhere (suc m) (suc n) = none_anywhere m n
 
 module _ (bytes : List ℕ) (xs : List Chain) (i : ℕ) (x : Chain) (h : i < length xs) where
-  abbrev at_place : List Chain → ℕ → List ℕ
-  at_place cs k = nodes_of (get_or cs k (record { count = 0; nodes = [] }))
+  abbrev at_place : List Chain → ℕ → Chain
+  at_place cs k = get_or cs k no_chain
 
   -- one chain more is that of the bytes
-  pub chain_more : x ≡ chain_at bytes i → ((k : ℕ) → k < i → at_place xs k ≡ chain_in bytes k) → (k : ℕ) → k < i + 1 → at_place (set xs i x) k ≡ chain_in bytes k
+  pub chain_more : x ≡ chain_at bytes i → ((k : ℕ) → k < i → at_place xs k ≡ chain_at bytes k) → (k : ℕ) → k < i + 1 → at_place (set xs i x) k ≡ chain_at bytes k
   chain_more e inv =
-      below_more (λ k. at_place (set xs i x) k ≡ chain_in bytes k) i
-      (λ k l. let ne : k ≢ i = omega arith in ap nodes_of (get_or-set_other xs i k x _ ne) ∙ inv k l)
-      (ap nodes_of (get_or-set_same xs i x _ h ∙ e))
+      below_more (λ k. at_place (set xs i x) k ≡ chain_at bytes k) i
+      (λ k l. let ne : k ≢ i = omega arith in get_or-set_other xs i k x _ ne ∙ inv k l)
+      (get_or-set_same xs i x _ h ∙ e)
 
   -- the places behind it stay
-  pub chain_less : ((k : ℕ) → i ≤ k → at_place xs k ≡ []) → (k : ℕ) → i + 1 ≤ k → at_place (set xs i x) k ≡ []
-  chain_less inv k l = let ne : k ≢ i = omega arith in ap nodes_of (get_or-set_other xs i k x _ ne) ∙ inv k (omega arith)
+  pub chain_less : ((k : ℕ) → i ≤ k → at_place xs k ≡ no_chain) → (k : ℕ) → i + 1 ≤ k → at_place (set xs i x) k ≡ no_chain
+  chain_less inv k l = let ne : k ≢ i = omega arith in get_or-set_other xs i k x _ ne ∙ inv k (omega arith)
 
--- past the last node the bytes say no nodes
+-- past the last node the bytes say the chain of no nodes
+pub none_past : (bytes : List ℕ) (n k : ℕ) → length bytes ≡ 4 * n → n ≤ k → chain_at bytes k ≡ no_chain
+none_past bytes n k size l =
+    let byte : (i : ℕ) → get_or bytes (4 * k + i) 0 ≡ 0 = λ i. get_or_past bytes (4 * k + i) 0 (omega arith) in
+    ap (λ a. record { count = a; nodes = get_or bytes (4 * k + 1) 0 ∷ get_or bytes (4 * k + 2) 0 ∷ get_or bytes (4 * k + 3) 0 ∷ [] }) (get_or_past bytes (4 * k) 0 (omega arith))
+    ∙ ap (λ a. record { count = 0; nodes = a ∷ get_or bytes (4 * k + 2) 0 ∷ get_or bytes (4 * k + 3) 0 ∷ [] }) (byte 1)
+    ∙ ap (λ a. record { count = 0; nodes = 0 ∷ a ∷ get_or bytes (4 * k + 3) 0 ∷ [] }) (byte 2)
+    ∙ ap (λ a. record { count = 0; nodes = 0 ∷ 0 ∷ a ∷ [] }) (byte 3)
+
 pub chain_past : (bytes : List ℕ) (n k : ℕ) → length bytes ≡ 4 * n → n ≤ k → chain_in bytes k ≡ []
-chain_past bytes n k size l = ap (λ c. take c (chain_at bytes k).nodes) (get_or_past bytes (4 * k) 0 (omega arith))
+chain_past bytes n k size l = ap nodes_of (none_past bytes n k size l)
 
 -- all chains are those of the bytes
-pub chains_same : (bytes : List ℕ) (p : Chains) (n : ℕ) → length bytes ≡ 4 * n → ((k : ℕ) → k < n → chain_of p k ≡ chain_in bytes k) → ((k : ℕ) → n ≤ k → chain_of p k ≡ [])
-    → chain_of p ≡ chain_in bytes
-chains_same bytes p n size below past =
-    fun_ext (λ k. elim (cases_lt k n) [
-      | inl l ↦ below k l
-      | inr l ↦ past k l ∙ sym (chain_past bytes n k size l)
-    ])
+pub chains_whole : (bytes : List ℕ) (p : Chains) (n : ℕ) → length bytes ≡ 4 * n → ((k : ℕ) → k < n → chain_itself p k ≡ chain_at bytes k)
+    → ((k : ℕ) → n ≤ k → chain_itself p k ≡ no_chain) → (k : ℕ) → chain_itself p k ≡ chain_at bytes k
+chains_whole bytes p n size below past k = elim (cases_lt k n) [
+  | inl l ↦ below k l
+  | inr l ↦ past k l ∙ sym (none_past bytes n k size l)
+]
+
+pub chains_same : (bytes : List ℕ) (p : Chains) → ((k : ℕ) → chain_itself p k ≡ chain_at bytes k) → chain_of p ≡ chain_in bytes
+chains_same bytes p whole = fun_ext (λ k. ap nodes_of (whole k))
 
 -- a node's four bytes
 chunk : (k n : ℕ) (bytes d : List ℕ) → n < k → get_or (first_chunks 4 k bytes) n d ≡ take 4 (drop (4 * n) bytes)

@@ -4,7 +4,8 @@ use Rattle.std.proofs.Common.{◌≡◌, ℕ, zero, suc, ◌+◌, ◌*◌, ◌<�
 use Rattle.std.proofs.lemmas.Bool.{and_parts, and_cases, or_cases, or_parts, cases_Bool, both_ways, leb-true, leb-false, ltb-true, ltb-false, eqb-true, eqb-false}
 use Rattle.refusals.specs.Searching.{unless, fault_of}
 use Rattle.refusals.specs.Least.{NotAfter, Answers}
-use Rattle.refusals.proofs.Lowest.{Lowest, lowest_like, lowest_or, lowest_of, lowest_unless, lower}
+use Rattle.refusals.proofs.Lowest.{Lowest, lowest_like, lowest_or, lowest_of, lowest_unless}
+use Rattle.refusals.proofs.Ranking.{lower}
 use Rattle.refusals.proofs.Searching.{option_or_none, holds}
 use Rattle.graphs.specs.View.{NodeView}
 use Rattle.walks.specs.Plans.{Keeps, Lawful}
@@ -12,7 +13,7 @@ use Rattle.plans.specs.declared.chains.Chain.{Chain}
 use Rattle.plans.specs.declared.chains.Chains.{Chains}
 use Rattle.plans.specs.declared.fault.PlanFault.{PlanFault}
 use Rattle.plans.specs.declared.fault.PlanFault.TheVariants.{Shape, Rule}
-use Rattle.plans.specs.Chains.{chain_of, chain_at, chain_in}
+use Rattle.plans.specs.Chains.{chain_itself, chain_of, chain_at, chain_in}
 use Rattle.plans.specs.Faults.{of_plan}
 use Rattle.plans.specs.Refusals.{WrongChain, many, unused, size, chain, PlanApplies, Says}
 use Rattle.plans.specs.Checking.{chain_right, keeps, size_fault, chains_fault, rules_fault, plan_fault}
@@ -106,14 +107,14 @@ module _ (g : List NodeView) (bytes : List ℕ) where
     right_lowest =
         lowest_like ahead Told (PlanApplies g bytes) spoken applied _
         (lowest_or ahead (Among ChainTold) (Among RuleTold)
-        (λ e d p q. lower (of_plan e) (of_plan d) 7 8 (ap (λ x. (of_plan x).number) p.3.0) (ap (λ x. (of_plan x).number) q.3.0) (omega arith))
+        (λ e d p q. lower (of_plan e) (of_plan d) (omega (arith, ap (λ x. (of_plan x).number) p.3.0, ap (λ x. (of_plan x).number) q.3.0)) (omega (arith, ap (λ x. (of_plan x).number) q.3.0)))
         (chains_fault (length g) bytes) (rules_fault g (chain_in bytes) (length g)) chains_lowest rules_lowest)
 
   -- a plan of another size is wrong at the number of nodes
   size_first : (length bytes ≡ 4 * length g → ⊥) → (d : PlanFault) → PlanApplies g bytes d → ahead (Shape (length g)) d
   size_first w (Shape n) (size h e) = inr (refl, inr (sym e, omega arith))
   size_first w (Shape n) (chain s l h) = absurd (w s)
-  size_first w (Rule n) h = inl (omega arith)
+  size_first w (Rule n) h = lower (of_plan (Shape (length g))) (of_plan (Rule n)) (omega arith) (omega arith)
 
   pub plan_lowest : Lowest ahead (PlanApplies g bytes) (plan_fault g bytes)
   plan_lowest = elim (cases_Bool (eqb (length bytes) (4 * length g))) [
@@ -131,8 +132,9 @@ module _ (g : List NodeView) (bytes : List ℕ) where
       keeps_says g n (chain_in bytes n) (holds (λ n. keeps g n (chain_in bytes n)) Rule (length g) n rules h)
 
   -- the answer of a call that tells the first fault
-  pub answered : (r : Result Chains PlanFault) → fault_of r ≡ plan_fault g bytes → IfOk r (λ chains. chain_of chains ≡ chain_in bytes)
+  pub answered : (r : Result Chains PlanFault) → fault_of r ≡ plan_fault g bytes → ((n : ℕ) → IfOk r (λ chains. chain_itself chains n ≡ chain_at bytes n))
+      → IfOk r (λ chains. chain_of chains ≡ chain_in bytes)
       → Answers of_plan (PlanApplies g bytes) (Says g bytes) r
-  answered (Ok x) e s =
-      (subst (Lowest ahead (PlanApplies g bytes)) (sym e) plan_lowest, record { same = s; lawful = subst (Lawful g) (sym s) (lawful (sym e)) })
-  answered (Err d) e s = let h = subst (Lowest ahead (PlanApplies g bytes)) (sym e) plan_lowest in record { applies = h.0; first = h.1 }
+  answered (Ok x) e w s =
+      (subst (Lowest ahead (PlanApplies g bytes)) (sym e) plan_lowest, record { whole = w; same = s; lawful = subst (Lawful g) (sym s) (lawful (sym e)) })
+  answered (Err d) e w s = let h = subst (Lowest ahead (PlanApplies g bytes)) (sym e) plan_lowest in record { applies = h.0; first = h.1 }

@@ -10,9 +10,17 @@ use Rattle.plans.specs.declared.chains.Chains.{Chains}
 abbrev pub nodes_of : Chain → List ℕ
 nodes_of c = take c.count c.nodes
 
--- the chain of each node: of no nodes past the last
+-- the chain of no nodes
+abbrev pub no_chain : Chain
+no_chain = record { count = 0; nodes = 0 ∷ 0 ∷ 0 ∷ [] }
+
+-- the chain of each node as it stands in memory, with what is behind its count: of no nodes past the last
+abbrev pub chain_itself : Chains → ℕ → Chain
+chain_itself p n = slice_index_or p.chains n no_chain
+
+-- the chain of each node
 abbrev pub chain_of : Chains → Plan
-chain_of p n = nodes_of (slice_index_or p.chains n (record { count = 0; nodes = [] }))
+chain_of p n = nodes_of (chain_itself p n)
 
 -- the four bytes of node n: how many nodes are behind it, and three nodes
 abbrev pub chain_at : List ℕ → ℕ → Chain

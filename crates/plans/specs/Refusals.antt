@@ -6,7 +6,7 @@ use Rattle.plans.specs.declared.chains.Chain.{Chain}
 use Rattle.plans.specs.declared.chains.Chains.{Chains}
 use Rattle.plans.specs.declared.fault.PlanFault.{PlanFault}
 use Rattle.plans.specs.declared.fault.PlanFault.TheVariants.{Shape, Rule}
-use Rattle.plans.specs.Chains.{chain_of, chain_at, chain_in}
+use Rattle.plans.specs.Chains.{chain_itself, chain_of, chain_at, chain_in}
 
 -- the count is over 3, or a byte behind the nodes that it names is not zero
 pub data WrongChain (c : Chain) : Type 0 where
@@ -29,7 +29,8 @@ abbrev pub PlanApplies : List NodeView → List ℕ → PlanFault → Type 0
 PlanApplies g bytes (Shape n) = WrongShape g bytes n
 PlanApplies g bytes (Rule n) = BrokenRule g bytes n
 
--- what is promised of an accepted plan: its chains are those that the bytes say, and they keep the rules
+-- what is promised of an accepted plan: its chains are those that the bytes say, in each place and all of them, and they keep the rules
 pub record Says (g : List NodeView) (bytes : List ℕ) (chains : Chains) : Type 0 where
+  pub whole : (n : ℕ) → chain_itself chains n ≡ chain_at bytes n
   pub same : chain_of chains ≡ chain_in bytes
   pub lawful : Lawful g (chain_of chains)

@@ -1,6 +1,6 @@
 // A plan in memory.
-ghost use Rattle.std.specs.Prelude.{◌≡◌, ℕ, ◌≤◌, [], length};
-ghost use Rattle.plans.specs.Chains.{nodes_of, chain_of, chain_at};
+ghost use Rattle.std.specs.Prelude.{◌≡◌, ℕ, ◌≤◌, length, replicate};
+ghost use Rattle.plans.specs.Chains.{nodes_of, no_chain, chain_itself, chain_of, chain_at};
 
 use graphs::graph::NODES;
 use graphs::named::named;
@@ -25,8 +25,7 @@ pub struct Chains {
 impl Chain {
     /// The chain of no nodes.
     pub fn none() -> Chain
-        ensures is { result.count ≡ 0 }
-        ensures whole { length result.nodes ≡ 3 }
+        ensures { result ≡ no_chain }
     {
         Chain {
             count: 0,
@@ -59,8 +58,8 @@ impl From<[u8; 4]> for Chain {
 impl Chains {
     /// The plan without chains.
     pub fn none() -> Chains
-        ensures is { (n : ℕ) → chain_of result n ≡ [] }
-        ensures whole { length result.chains ≡ 32 }
+        ensures is { result ≡ record { chains = replicate 32 no_chain } }
+        ensures says { (n : ℕ) → chain_itself result n ≡ no_chain }
     {
         Chains {
             chains: [Chain::none(); NODES],
@@ -69,7 +68,8 @@ impl Chains {
 
     /// The chain of a node; that of no nodes where the plan has none.
     pub fn chain(&self, node: u8) -> Chain
-        ensures { nodes_of result ≡ chain_of self.now node }
+        ensures is { result ≡ chain_itself self.now node }
+        ensures says { nodes_of result ≡ chain_of self.now node }
     {
         self.chains
             .get(usize::from(node))

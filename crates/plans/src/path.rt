@@ -1,7 +1,7 @@
 // A node of a graph, and the nodes behind it.
 ghost use Rattle.std.specs.Prelude.{◌≡◌, true, false, [], ◌∷◌};
 ghost use Rattle.std.specs.Option.{MatchOption};
-ghost use Rattle.graphs.specs.View.{node_view, graph_view, node_at};
+ghost use Rattle.graphs.specs.View.{node_view, node_itself, graph_view, node_at};
 ghost use Rattle.walks.specs.Rows.{leads_to};
 ghost use Rattle.plans.specs.Chains.{leads_on};
 
@@ -33,7 +33,8 @@ impl<'a> Path<'a> {
 
     /// The node that the path begins at.
     pub fn here(&self) -> Node
-        ensures { node_view result ≡ node_at (graph_view self.now.graph.now) self.now.node }
+        ensures is { node_view result ≡ node_at (graph_view self.now.graph.now) self.now.node }
+        ensures whole { result ≡ node_itself self.now.graph.now self.now.node }
     {
         self.graph.node(self.node)
     }

@@ -1,10 +1,10 @@
 // Reading a plan.
-ghost use Rattle.std.specs.Prelude.{◌≡◌, ◌==◌, ◌*◌, ◌≤◌, length, IfOk};
+ghost use Rattle.std.specs.Prelude.{◌≡◌, ℕ, ◌==◌, ◌*◌, ◌≤◌, length, IfOk};
 ghost use Rattle.std.specs.List.{list_all};
 ghost use Rattle.refusals.specs.Searching.{fault_of};
 ghost use Rattle.refusals.specs.Least.{Answers};
 ghost use Rattle.graphs.specs.View.{graph_view};
-ghost use Rattle.plans.specs.Chains.{chain_in, chain_of};
+ghost use Rattle.plans.specs.Chains.{chain_itself, chain_at, chain_in, chain_of};
 ghost use Rattle.plans.specs.Faults.{of_plan};
 ghost use Rattle.plans.specs.Refusals.{PlanApplies, Says};
 ghost use Rattle.plans.specs.Checking.{chain_right, ruled, keeps, size_fault, chains_fault, rules_fault, plan_fault};
@@ -65,6 +65,7 @@ fn chains_in(count: u8, bytes: &[u8]) -> Result<Chains, PlanFault>
     requires few { count ≤ 32 }
     requires size { length bytes.now ≡ 4 * count }
     ensures fault { fault_of result ≡ chains_fault count bytes.now }
+    ensures whole { (n : ℕ) → IfOk result (λ chains. chain_itself chains n ≡ chain_at bytes.now n) }
     ensures says { IfOk result (λ chains. chain_of chains ≡ chain_in bytes.now) }
 {
     let mut plan = Chains::none();
@@ -95,8 +96,8 @@ fn check_rules(graph: &Graph, chains: &Chains) -> Result<(), PlanFault>
 }
 
 impl<'a> Path<'a> {
-    // Whether the node and its chain keep the rules; a node without a chain breaks none.
-    fn keeps_rules(&self) -> bool
+    /// Whether the node and its chain keep the rules; a node without a chain breaks none.
+    pub fn keeps_rules(&self) -> bool
         ensures { result ≡ keeps (graph_view self.now.graph.now) self.now.node self.now.behind.now }
     {
         self.behind.is_empty() || self.ruled(KEY)

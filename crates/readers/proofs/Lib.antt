@@ -5,4 +5,5 @@ pub mod Stating
 pub mod Standing
 pub mod Asking
 pub mod Turning
+pub mod Tracing
 pub mod Going

@@ -14,19 +14,12 @@ use Rattle.walks.specs.Turns.{settled, passed, last_at, last_node, Singly, Asks,
 use Rattle.walks.specs.Turning.{Trace, trace, ahead, refusal, follow, answered, asking, single, turn_by, turn}
 use Rattle.walks.proofs.Once.{refused_is, header_is}
 use Rattle.walker.specs.Steps.{step_to}
-use Rattle.walker.specs.declared.step.Step.{Step}
-use Rattle.walker.specs.declared.step.Step.TheVariants.{Stop, Last, On}
-use Rattle.readers.specs.Asking.{EndsAs}
-
--- where a step leads, `next` being the turns from a node on
-abbrev pub led : (ℕ → ℕ → Trace) → Step → Trace
-led next (Stop o) = trace [] o []
-led next (Last m o) = trace [] o []
-led next (On m n at) = next n at
+use Rattle.readers.specs.Tracing.{trace_after}
+use Rattle.readers.proofs.Asking.{EndsAs}
 
 module _ (minimum : Kind → ℕ) (put : Question → Option Action) (g : List NodeView) (chain : Plan) (p : List ℕ) (next : ℕ → ℕ → Trace) where
   -- a target leads as the step behind the last header passed
-  follow_led : (n at : ℕ) (t : Option Target) → follow minimum put g p next n at t ≡ led next (step_to (mark_at g p n at) t)
+  follow_led : (n at : ℕ) (t : Option Target) → follow minimum put g p next n at t ≡ trace_after next (step_to (mark_at g p n at) t)
   follow_led n at None = refl
   follow_led n at (Some to.Dropped) = refl
   follow_led n at (Some to.Done) = refl
@@ -53,7 +46,7 @@ module _ (minimum : Kind → ℕ) (put : Question → Option Action) (g : List N
     -- the answer passes headers, and leads on behind the last
     pub turn_led : (cs : List ℕ) (q : Question) → Asks minimum g chain p n at cs q → (a : Action) → a ≡ settled (put q)
         → turn minimum put g p next n (chain n) at
-        ≡ ahead (passed g p a.beyond n cs at) (q ∷ []) (led next (step_to (mark_at g p (last_node a.beyond n cs) (last_at g p a.beyond n cs at)) a.target))
+        ≡ ahead (passed g p a.beyond n cs at) (q ∷ []) (trace_after next (step_to (mark_at g p (last_node a.beyond n cs) (last_at g p a.beyond n cs at)) a.target))
     turn_led cs q asks a is =
         turn_asks asks ∙ ap (answered minimum put g p next n cs at q) (sym is)
         ∙ ap (ahead (passed g p a.beyond n cs at) (q ∷ [])) (follow_led (last_node a.beyond n cs) (last_at g p a.beyond n cs at) a.target)

@@ -1,14 +1,14 @@
 // A packet read by questions to a store.
 ghost use Rattle.std.specs.Prelude.{◌≡◌, ℕ, ◌≤◌, List, length};
-ghost use Rattle.headers.specs.declared.mark.Mark.{Mark};
 ghost use Rattle.headers.specs.declared.kinds.Kind.{Kind};
 ghost use Rattle.graphs.specs.View.{NodeView};
-ghost use Rattle.stores.specs.Meaning.{answer, asked};
+ghost use Rattle.stores.specs.Meaning.{answer, asked, asked_each};
 ghost use Rattle.walks.specs.Rows.{Plan, action_at};
 ghost use Rattle.walks.specs.Turns.{settled};
 ghost use Rattle.compiler.specs.Held.{held};
-ghost use Rattle.readers.specs.Fronts.{Written};
-ghost use Rattle.readers.specs.Reading.{after_questions, Programmed, ReadAs};
+ghost use Rattle.readers.specs.Fronts.{over};
+ghost use Rattle.readers.specs.Tracing.{trace_by, reading_of};
+ghost use Rattle.readers.specs.Reading.{Programmed, ReadAs};
 
 use crate::turn::Turn;
 use compiler::program::Program;
@@ -43,17 +43,27 @@ impl Reading {
 /// Reads a packet turn by turn, from node 0 at offset 0 on, by questions to the store, and writes each
 /// header's mark in order to the front of `marks`; those behind stay. Nothing is refused: any program
 /// and any store are read by, in at most as many turns as the program has nodes. A mark that has no
-/// place is left out, and an offset over 65,535 is told as 65,535.
+/// place is left out, and an offset over 65,535 is told as 65,535. Where the program stands for a graph
+/// and a plan and the store holds their rows, a packet of at most 9,600 bytes is read as the plain walk
+/// walks it, into 32 marks or more (`read`).
 pub fn read<S: Store>(
     program: &Program,
     store: &mut S,
     packet: &[u8],
     marks: &mut [Mark],
 ) -> Reading
-    ensures asked { S.Store.meaning store.new ≡ after_questions result.questions (S.Store.meaning store.old) }
+    ensures is { let t = trace_by program.now (S.Store.meaning store.old).rows packet.now in
+        result ≡ reading_of t (length marks.old) }
+    ensures marks { let t = trace_by program.now (S.Store.meaning store.old).rows packet.now in
+        marks.new ≡ over t.marks marks.old }
+    ensures asked { let t = trace_by program.now (S.Store.meaning store.old).rows packet.now in
+        S.Store.meaning store.new ≡ asked_each (S.Store.meaning store.old) t.questions }
     ensures turns { result.questions ≤ length (held program.now.heads) }
-    ensures front { (ws : List Mark) × Written marks.old marks.new result.marks ws }
-    ensures read { (minimum : Kind → ℕ) (g : List NodeView) (chain : Plan) → Programmed minimum g chain program.now (S.Store.meaning store.old).rows → length packet.now ≤ 9600 → 32 ≤ length marks.old → ReadAs minimum g chain packet.now marks.old marks.new result }
+    ensures read { let t = trace_by program.now (S.Store.meaning store.old).rows packet.now in
+        (minimum : Kind → ℕ) (g : List NodeView) (chain : Plan) →
+        Programmed minimum g chain program.now (S.Store.meaning store.old).rows →
+        length packet.now ≤ 9600 → 32 ≤ length marks.old →
+        ReadAs minimum g chain packet.now marks.old marks.new t.questions result }
 {
     let reader = Reader { program, packet };
     reader.read(store, marks)
@@ -69,10 +79,13 @@ struct Reader<'a> {
 impl<'a> Reader<'a> {
     // Reads the packet.
     fn read<S: Store>(&self, store: &mut S, marks: &mut [Mark]) -> Reading
-        ensures asked { S.Store.meaning store.new ≡ after_questions result.questions (S.Store.meaning store.old) }
+        ensures is { let t = trace_by self.now.program.now (S.Store.meaning store.old).rows self.now.packet.now in
+            result ≡ reading_of t (length marks.old) }
+        ensures marks { let t = trace_by self.now.program.now (S.Store.meaning store.old).rows self.now.packet.now in
+            marks.new ≡ over t.marks marks.old }
+        ensures asked { let t = trace_by self.now.program.now (S.Store.meaning store.old).rows self.now.packet.now in
+            S.Store.meaning store.new ≡ asked_each (S.Store.meaning store.old) t.questions }
         ensures turns { result.questions ≤ length (held self.now.program.now.heads) }
-        ensures front { (ws : List Mark) × Written marks.old marks.new result.marks ws }
-        ensures read { (minimum : Kind → ℕ) (g : List NodeView) (chain : Plan) → Programmed minimum g chain self.now.program.now (S.Store.meaning store.old).rows → length self.now.packet.now ≤ 9600 → 32 ≤ length marks.old → ReadAs minimum g chain self.now.packet.now marks.old marks.new result }
     {
         let mut node = 0;
         let mut at = 0;

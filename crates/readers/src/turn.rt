@@ -5,9 +5,9 @@ ghost use Rattle.plans.specs.Chains.{nodes_of};
 ghost use Rattle.walks.specs.Outcomes.{outcome};
 ghost use Rattle.walks.specs.Bytes.{spelled_in};
 ghost use Rattle.walks.specs.Rows.{key_width, question};
-ghost use Rattle.walker.specs.Headers.{refusal_where};
+ghost use Rattle.walks.specs.Turning.{refusal_where};
 ghost use Rattle.readers.specs.Headers.{mark_by, bytes_at, end_of, marks_by, marks_left};
-ghost use Rattle.readers.specs.Asking.{wide, TurnAsks, Passes};
+ghost use Rattle.readers.specs.Asking.{look_of, wide, turn_asks, Passes};
 
 use crate::behind::{Behind, end_of, head_of, mark_at};
 use crate::front::put;
@@ -52,7 +52,8 @@ impl<'a> Turn<'a> {
     /// question over both; otherwise, after the three checks, one over the node alone. Refused as the
     /// checks refuse its header.
     pub(crate) fn question(&self) -> Result<Asked<'a>, Outcome>
-        ensures { TurnAsks self.now result }
+        ensures { look_of result
+            ≡ turn_asks self.now.program.now self.now.packet.now self.now.node self.now.at }
     {
         let head = head_of(self.program, self.node);
         if self.in_one_look(head) {

@@ -2,8 +2,6 @@
 use Rattle.std.specs.Option.{option_or, option_map}
 use Rattle.std.proofs.Common.{◌≡◌, ℕ, zero, suc, ◌+◌, ◌<◌, ◌≤◌, Bool, true, false, ◌⊎◌, Some, None, Option, sym, refl, subst, inl, inr, arith, MatchOption}
 use Rattle.std.proofs.lemmas.Bool.{cases_eq, cases_lt, both_ways}
-use Rattle.refusals.specs.declared.refusal.Refusal.{Refusal}
-use Rattle.refusals.specs.Least.{rank, NotAfter}
 use Rattle.refusals.specs.Searching.{first_told, unless}
 
 module _ {E : Type 0} (order : E → E → Type 0) where
@@ -51,7 +49,3 @@ pub lowest_mapped : {X E : Type 0} (order : E → E → Type 0) (g : X → E) (P
     → Lowest (λ x y. order (g x) (g y)) P o → Lowest order (λ e. (x : X) × (e ≡ g x) × P x) (option_map g o)
 lowest_mapped order g P None h = λ e w. h w.0 w.2
 lowest_mapped order g P (Some x) h = ((x, refl, h.0), λ d w. subst (order (g x)) (sym w.1) (h.1 w.0 w.2))
-
--- a lower rank goes first
-pub lower : (a b : Refusal) (m n : ℕ) → rank a ≡ m → rank b ≡ n → m < n → NotAfter a b
-lower a b m n p q h = inl (omega arith)

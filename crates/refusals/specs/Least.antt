@@ -2,9 +2,17 @@
 use Rattle.std.specs.Prelude.{◌≡◌, ℕ, ◌<◌, ◌≤◌, ◌⊎◌, Ok, Err, Result}
 use Rattle.refusals.specs.declared.refusal.Refusal.{Refusal}
 
--- Refusals are tried in the order of their ranks. A rank is not the number: a later number may be tried between two earlier ones.
+-- the highest number of the table
+abbrev pub last_number : ℕ
+last_number = 17
+
+-- The rank of a number: refusals are tried in the order of their ranks. Today a number is its own rank. It is shut, so that proofs
+-- rest on its laws alone and not on that: equal ranks are equal numbers, and up to the last number a lower one has the lower rank
+unfoldable pub rank_of : ℕ → ℕ
+rank_of n = n
+
 abbrev pub rank : Refusal → ℕ
-rank r = r.number
+rank r = rank_of r.number
 
 -- the lower rank goes first, then the lower first place (a node or a pair), then the lower second (a row or a byte)
 abbrev pub NotAfter : Refusal → Refusal → Type 0

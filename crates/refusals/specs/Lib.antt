@@ -1,3 +1,4 @@
 pub mod Searching
 pub mod Least
 pub mod Names
+pub mod Words

@@ -1,6 +1,7 @@
 // Refusals in words.
-ghost use Rattle.std.specs.Prelude.{Some};
+ghost use Rattle.std.specs.Prelude.{◌≡◌, Some};
 ghost use Rattle.refusals.specs.Names.{layer_name};
+ghost use Rattle.refusals.specs.Words.{place_text, line_of, refusal_text};
 
 use crate::refusal::{Layer, Refusal};
 use std::fmt;
@@ -23,37 +24,73 @@ impl fmt::Display for Layer {
     }
 }
 
+// What a refusal's place names: nothing, a pair, a node and perhaps a part of it, or a number of rows.
+#[derive(Clone, Copy)]
+enum Place {
+    Nowhere,
+    Pair(u16),
+    Node(u16),
+    NodeByte(u16, u16),
+    NodeRow(u16, u16),
+    NodeOffset(u16, u16),
+    Rows(u16),
+    RowsOrMore(u16),
+}
+
+// Behind a comma; nothing where the number names none.
+impl fmt::Display for Place {
+    ghost output = { λ place. Some (place_text place) };
+
+    fn fmt<W: fmt::Write>(&self, f: &mut fmt::Formatter<W>) -> fmt::Result {
+        match self {
+            Place::Nowhere => Ok(()),
+            Place::Pair(pair) => write!(f, ", pair {pair}"),
+            Place::Node(node) => write!(f, ", node {node}"),
+            Place::NodeByte(node, byte) => write!(f, ", node {node}, byte {byte}"),
+            Place::NodeRow(node, row) => write!(f, ", node {node}, row {row}"),
+            Place::NodeOffset(node, offset) => write!(f, ", node {node}, offset {offset}"),
+            Place::Rows(rows) => write!(f, ", {rows} rows"),
+            Place::RowsOrMore(rows) => write!(f, ", {rows} rows or more"),
+        }
+    }
+}
+
 // Its number, its layer, its place and what is wrong there. What it refuses or ends is said before it.
 impl fmt::Display for Refusal {
+    ghost output = { λ refusal. Some (refusal_text refusal) };
+
     fn fmt<W: fmt::Write>(&self, f: &mut fmt::Formatter<W>) -> fmt::Result {
         let number = self.number;
         let layer = self.layer;
-        write!(f, "number {number}, layer {layer}")?;
-        self.write_place(f)?;
+        let place = self.place();
         let meaning = self.meaning();
-        write!(f, ": {meaning}")
+        write!(f, "number {number}, layer {layer}{place}: {meaning}")
     }
 }
 
 impl Refusal {
-    // The place, behind a comma: nothing where the number names none.
-    fn write_place<W: fmt::Write>(&self, f: &mut fmt::Formatter<W>) -> fmt::Result {
+    // What the two numbers of the place name, by the refusal's number.
+    fn place(&self) -> Place
+        ensures { result ≡ (line_of self.now).place }
+    {
         let first = self.first;
         let second = self.second;
         match self.number {
-            2 => write!(f, ", pair {first}"),
-            3 => write!(f, ", node {first}, byte {second}"),
-            4 | 5 => write!(f, ", node {first}, row {second}"),
-            6..=8 => write!(f, ", node {first}"),
-            9 if first == u16::MAX => write!(f, ", {first} rows or more"),
-            9 if first > 0 => write!(f, ", {first} rows"),
-            13..=16 => write!(f, ", node {first}, offset {second}"),
-            _ => Ok(()),
+            2 => Place::Pair(first),
+            3 => Place::NodeByte(first, second),
+            4 | 5 => Place::NodeRow(first, second),
+            6..=8 => Place::Node(first),
+            9 if first == u16::MAX => Place::RowsOrMore(first),
+            9 if first > 0 => Place::Rows(first),
+            13..=16 => Place::NodeOffset(first, second),
+            _ => Place::Nowhere,
         }
     }
 
     // What the number says.
-    fn meaning(&self) -> &'static str {
+    fn meaning(&self) -> &'static str
+        ensures { result.now ≡ (line_of self.now).meaning }
+    {
         match self.number {
             1 => "the file's size, its node count or its byte 1 is wrong",
             2 => "the pair's offset or length is not that of the node's record",

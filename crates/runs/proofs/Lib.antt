@@ -1,3 +1,4 @@
+pub mod One
 pub mod Calling
 pub mod Promising
 pub mod Agreeing

@@ -1,3 +1,4 @@
 pub mod Successions
 pub mod Promises
+pub mod Following
 pub mod Agreement

@@ -4,13 +4,9 @@ use Rattle.slices.specs.Sliced.{sliced}
 use Rattle.stores.specs.declared.listing.Rows.{Rows}
 use Rattle.stores.specs.declared.pair.Pair.{Pair}
 use Rattle.stores.specs.declared.tabled.Tabled.{Tabled}
-use Rattle.stores.specs.Listed.{listed}
+use Rattle.stores.specs.Listed.{of_listing}
 use Rattle.stores.specs.Meaning.{Meaning}
 use Rattle.stores.specs.Paired.{paired}
-
--- a listing
-abbrev pub of_listing : Tabled Rows 512 → Meaning
-of_listing s = listed s.table.rows s.held s.questions
 
 -- a sliced store
 abbrev pub of_sliced : Tabled Words 64 → Meaning

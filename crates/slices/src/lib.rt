@@ -4,4 +4,4 @@
 
 pub mod pile;
 pub mod sliced;
-mod words;
+pub mod words;

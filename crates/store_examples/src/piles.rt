@@ -1,7 +1,9 @@
 // Filling a listing, a sliced store and a pile of three, each with the meaning after it.
 ghost use Rattle.std.specs.Prelude.{◌≡◌};
-ghost use Rattle.slices.specs.Piled.{of_listing, of_sliced, piled};
-ghost use Rattle.stores.specs.Filled.{all_taken, filled};
+ghost use Rattle.stores.specs.Listed.{of_listing};
+ghost use Rattle.slices.specs.Piled.{of_sliced, piled};
+ghost use Rattle.stores.specs.Meaning.{appended_each};
+ghost use Rattle.stores.specs.Filled.{all_taken};
 
 use crate::rows::row_of;
 use slices::pile::{Pile, fresh_pile};
@@ -17,21 +19,21 @@ use stores::store::Store;
 // the words of each store.
 fn fill_listing(store: &mut Listing, rows: &[Row]) -> Result<(), StoreFault>
     ensures answered { result ≡ all_taken (of_listing store.old) rows.now }
-    ensures after { of_listing store.new ≡ filled (of_listing store.old) rows.now }
+    ensures after { of_listing store.new ≡ appended_each (of_listing store.old) rows.now }
 {
     fill(store, rows)
 }
 
 fn fill_sliced(store: &mut Sliced, rows: &[Row]) -> Result<(), StoreFault>
     ensures answered { result ≡ all_taken (of_sliced store.old) rows.now }
-    ensures after { of_sliced store.new ≡ filled (of_sliced store.old) rows.now }
+    ensures after { of_sliced store.new ≡ appended_each (of_sliced store.old) rows.now }
 {
     fill(store, rows)
 }
 
 fn fill_pile(store: &mut Pile, rows: &[Row]) -> Result<(), StoreFault>
     ensures answered { result ≡ all_taken (piled store.old) rows.now }
-    ensures after { piled store.new ≡ filled (piled store.old) rows.now }
+    ensures after { piled store.new ≡ appended_each (piled store.old) rows.now }
 {
     fill(store, rows)
 }

@@ -1,5 +1,6 @@
 pub mod Faults
 pub mod Fits
+pub mod States
 pub mod Meaning
 pub mod Listed
 pub mod Tabled

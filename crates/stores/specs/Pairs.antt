@@ -1,5 +1,5 @@
 -- What a pair's calls make of its meaning.
-use Rattle.std.specs.Prelude.{◌≡◌, ℕ, ◌+◌, ◌-◌, ◌<◌, ◌≤◌, min, Bool, false, List, [], ◌∷◌, ◌++◌, length, take, Some, None, ◌≢◌, nat_eq}
+use Rattle.std.specs.Prelude.{◌≡◌, ℕ, ◌+◌, ◌-◌, ◌^◌, ◌<◌, ◌≤◌, min, Bool, false, List, [], ◌∷◌, ◌++◌, length, take, Some, None, ◌≢◌, nat_eq}
 use Rattle.std.proofs.Common.{sym, ◌∙◌, arith}
 use Rattle.std.proofs.lemmas.Bool.{ne_eqb, eq-eqb, lt-ltb}
 use Rattle.std.proofs.lemmas.List.{length-take, length-append, length_push, append_assoc, append-nil, take_all, nil_from_length}
@@ -20,8 +20,8 @@ module _ (a b : Meaning) where
   pub take_second : (length b.rows ≢ 0) → both_take a b ≡ b.takes
   take_second n = rw (ne_eqb _ _ n)
 
-  pub paired_bounded : (n : ℕ) → Bounded (paired a b n)
-  paired_bounded n = record { rows_fit = omega (arith, both_length); capacity_fits = omega arith; takes_fit = omega arith }
+  pub paired_bounded : (n : ℕ) → n < 2 ^ 64 → Bounded (paired a b n)
+  paired_bounded n h = record { rows_fit = omega (arith, both_length); capacity_fits = omega arith; takes_fit = omega arith; questions_fit = h }
 
   -- the first answers for both
   pub answer_first : (q : Question) (i : ℕ) → length a.rows ≤ 65535 → answer a.rows q ≡ Some i → Some i ≡ answer (both_rows a b) q

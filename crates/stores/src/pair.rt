@@ -1,5 +1,5 @@
 // Two stores, one behind the other.
-ghost use Rattle.std.specs.Prelude.{◌≡◌};
+ghost use Rattle.std.specs.Prelude.{◌≡◌, ◌^◌, ◌<◌};
 ghost use Rattle.stores.specs.Paired.{paired, behind, cut};
 ghost use Rattle.stores.specs.Pairs.{paired_bounded};
 
@@ -14,12 +14,14 @@ pub struct Pair<A, B> {
     first: A,
     second: B,
     questions: u64,
+    ghost counted: { questions < 2 ^ 64 },
 }
 
 impl<A: Store, B: Store> Pair<A, B> {
     /// The pair of two stores with the rows that they hold, itself never asked.
     pub fn new(first: A, second: B) -> Pair<A, B>
-        ensures { paired (A.Store.meaning result.first) (B.Store.meaning result.second) result.questions ≡ paired (A.Store.meaning first) (B.Store.meaning second) 0 }
+        ensures { paired (A.Store.meaning result.first) (B.Store.meaning result.second) result.questions
+            ≡ paired (A.Store.meaning first) (B.Store.meaning second) 0 }
     {
         Pair {
             first,
@@ -41,7 +43,8 @@ fn moved(held: u16, place: Option<u16>) -> Option<u16>
 impl<A: Store, B: Store> Store for Pair<A, B> {
     ghost meaning = { λ s. paired (A.Store.meaning s.first) (B.Store.meaning s.second) s.questions };
 
-    ghost bounded = { λ s. paired_bounded (A.Store.meaning s.first) (B.Store.meaning s.second) s.questions };
+    ghost bounded = { λ s.
+        paired_bounded (A.Store.meaning s.first) (B.Store.meaning s.second) s.questions s.counted };
 
     fn wipe(&mut self) {
         self.first.wipe();

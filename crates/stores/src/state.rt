@@ -1,5 +1,6 @@
 // The state of a question or a row.
-ghost use Rattle.std.specs.Prelude.{◌≡◌, ◌<◌, ◌≤◌, MatchOption, MatchResult};
+ghost use Rattle.std.specs.Prelude.{◌≡◌, ◌<◌, ◌≤◌, MatchOption, MatchResult, Some};
+ghost use Rattle.stores.specs.States.{no_state_text};
 
 use std::convert::TryFrom;
 use std::error::Error;
@@ -20,6 +21,8 @@ pub struct NoState {
 
 // By hand, as one `write!` is as plain as a derive of another crate's.
 impl fmt::Display for NoState {
+    ghost output = { λ refused. Some (no_state_text refused) };
+
     fn fmt<W: fmt::Write>(&self, f: &mut fmt::Formatter<W>) -> fmt::Result {
         write!(f, "{} is no state: a state is below 64", self.number)
     }

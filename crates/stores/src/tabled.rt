@@ -1,5 +1,5 @@
 // The store over any table of rows.
-ghost use Rattle.std.specs.Prelude.{◌≡◌, ◌≤◌};
+ghost use Rattle.std.specs.Prelude.{◌≡◌, ◌^◌, ◌<◌, ◌≤◌};
 ghost use Rattle.stores.specs.Meaning.{fresh};
 ghost use Rattle.stores.specs.Tabled.{tabled};
 ghost use Rattle.std.proofs.Common.{arith};
@@ -16,6 +16,7 @@ pub struct Tabled<T, const CAPACITY: u16> {
     pub(crate) held: u16,
     questions: u64,
     ghost within: { held ≤ CAPACITY },
+    ghost counted: { questions < 2 ^ 64 },
 }
 
 impl<T: Copy, const CAPACITY: u16> Copy for Tabled<T, CAPACITY> {}
@@ -52,6 +53,7 @@ impl<T: Table<CAPACITY>, const CAPACITY: u16> Store for Tabled<T, CAPACITY> {
           rows_fit = omega (arith, T.length_rows s.table s.held s.within);
           capacity_fits = omega arith;
           takes_fit = omega arith;
+          questions_fit = s.counted;
         } };
 
     fn wipe(&mut self) {

@@ -126,7 +126,7 @@ fn parts_of_a_packet_are_read_and_counted(rt: HostRuntime) {
 }
 
 // The headers of the tagged packet. Those of each worked packet are the first of them.
-fn headers() -> [Mark; 4] {
+pub(crate) fn headers() -> [Mark; 4] {
     [
         mark(0, 0, 0, 14),
         mark(1, 1, 14, 4),

@@ -3,12 +3,14 @@ use crate::packets::Packets;
 use console::failure::Failure;
 use readers::read::Reading;
 use refusals::refusal::Refusal;
-use runs::calls::{Call, Reply};
+use runs::calls::{Answer, Call, Reply};
 use runs::side::side_by_side;
 use std::alloc::Global;
 use std::io;
 use stores::listing::Listing;
 use taps::fault::PacketFault;
+use taps::tap::NO_MARK;
+use walker::walk::MOST_MARKS;
 
 /// A graph file, the plans of two taps, and the packets that both read: a capture, or one packet.
 #[derive(Clone, Copy)]
@@ -18,6 +20,12 @@ pub struct Comparison<'a> {
     pub right: &'a [u8],
     pub packets: &'a [u8],
 }
+
+// What stands in the place of a reply before its call is made.
+const BLANK: Reply<32> = Reply {
+    answer: Answer::Load(Ok(())),
+    marks: [NO_MARK; MOST_MARKS],
+};
 
 // The questions that two taps put, one beside the other.
 #[derive(Clone, Copy)]
@@ -36,8 +44,8 @@ impl<'a> Comparison<'a> {
         let packets = Packets::of(heap, self.packets)?;
         let left = self.calls(heap, self.left, &packets)?;
         let right = self.calls(heap, self.right, &packets)?;
-        let mut left_replies = vec![in heap; Reply::Load(Ok(())); left.len()]?;
-        let mut right_replies = vec![in heap; Reply::Load(Ok(())); right.len()]?;
+        let mut left_replies = vec![in heap; BLANK; left.len()]?;
+        let mut right_replies = vec![in heap; BLANK; right.len()]?;
         let _taps = side_by_side(
             Listing::new(),
             Listing::new(),
@@ -67,16 +75,18 @@ impl<'a> Comparison<'a> {
 }
 
 // Prints the reads of both taps, packet by packet. Refused as the first load that is refused.
-fn print_replies<'f>(rt: &impl Print, left: &[Reply], right: &[Reply]) -> Result<(), Failure<'f>> {
+fn print_replies<'f>(
+    rt: &impl Print,
+    left: &[Reply<32>],
+    right: &[Reply<32>],
+) -> Result<(), Failure<'f>> {
     check_load(left)?;
     check_load(right)?;
     println!(rt; "packet  headers  questions of both  read as")?;
     let mut all = Questions { left: 0, right: 0 };
     let mut number: usize = 0;
     for (left, right) in left.iter().zip(right.iter()) {
-        if let (Reply::Read { answer: left, .. }, Reply::Read { answer: right, .. }) = (
-            left, right,
-        ) {
+        if let (Answer::Read(left), Answer::Read(right)) = (&left.answer, &right.answer) {
             let asked = print_read(rt, number, left, right)?;
             all.left = all.left.saturating_add(asked.left);
             all.right = all.right.saturating_add(asked.right);
@@ -87,9 +97,14 @@ fn print_replies<'f>(rt: &impl Print, left: &[Reply], right: &[Reply]) -> Result
 }
 
 // Refused if the load was.
-fn check_load<'f>(replies: &[Reply]) -> Result<(), Failure<'f>> {
+fn check_load<'f>(replies: &[Reply<32>]) -> Result<(), Failure<'f>> {
     match replies.first() {
-        Some(Reply::Load(Err(fault))) => Err(Failure::Refused(Refusal::from(*fault))),
+        Some(
+            Reply {
+                answer: Answer::Load(Err(fault)),
+                ..
+            },
+        ) => Err(Failure::Refused(Refusal::from(*fault))),
         _ => Ok(()),
     }
 }

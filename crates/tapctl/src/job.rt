@@ -67,7 +67,6 @@ impl<S: Store> Telling for Reads<S> {
     fn tell<'f>(
         &mut self,
         rt: &(impl Print + AllocGlobal),
-        _number: usize,
         packet: &[u8],
     ) -> Result<(), Failure<'f>> {
         let reading = self

@@ -29,11 +29,10 @@ pub struct Packets<'a> {
 
 /// What is told of the packets of a file, one after the other.
 pub trait Telling {
-    /// Tells of the packet that stands at a number among them. Refused as the packet is.
+    /// Tells of the next packet. Refused as the packet is.
     fn tell<'f>(
         &mut self,
         rt: &(impl Print + AllocGlobal),
-        number: usize,
         packet: &[u8],
     ) -> Result<(), Failure<'f>>;
 }
@@ -97,7 +96,7 @@ impl<'a> Packets<'a> {
             if let Detail::Packets = detail {
                 self.print_heading(rt, number, packet)?;
             }
-            match telling.tell(rt, number, packet) {
+            match telling.tell(rt, packet) {
                 Err(Failure::Refused(refusal)) if self.capture => {
                     if let Detail::Summary = detail {
                         self.print_heading(rt, number, packet)?;

@@ -4,13 +4,14 @@ use crate::program::LineTaker;
 use crate::reading_text::{print_reading, print_report};
 use console::failure::Failure;
 use console::files::bytes_of;
+use headers::mark::Mark;
 use refusals::refusal::Refusal;
-use runs::calls::{Call, Reply};
-use runs::run::run;
-use std::alloc::Global;
+use runs::calls::{Answer, Call};
+use runs::make::make_call;
 use std::rt::{Clock, Files};
 use stores::store::Store;
-use taps::tap::Tap;
+use taps::tap::{NO_MARK, Tap};
+use walker::walk::MOST_MARKS;
 
 /// How a session is told what to do.
 const USAGE: &str = "usage of a session's line:
@@ -24,10 +25,11 @@ pub struct Session<S> {
     tap: Tap<S>,
 }
 
-// The replies to reads, packet by packet.
-#[derive(Clone, Copy)]
-struct Replies<'r> {
-    list: &'r [Reply],
+// Reads by a tap, packet by packet, each with the marks that the one before left.
+#[derive(Drop)]
+struct Reads<'t, S> {
+    tap: &'t mut Tap<S>,
+    marks: [Mark; MOST_MARKS],
 }
 
 impl<S: Store> Session<S> {
@@ -65,8 +67,7 @@ impl<S: Store> Session<S> {
             file: file.as_slice(),
             plan: plan.as_slice(),
         };
-        let replies = self.make(rt.alloc(), &[call])?;
-        print_reply(rt, replies.as_slice())
+        print_answer(rt, &make_call(&mut self.tap, call, &mut []))
     }
 
     // Reads the packets of a file, and prints what each is read as. The file's one packet is refused by
@@ -78,24 +79,16 @@ impl<S: Store> Session<S> {
     ) -> Result<(), Failure<'a>> {
         let file = bytes_of(rt, packets)?;
         let packets = Packets::of(rt.alloc(), file.as_slice())?;
-        let mut calls = Vec::new(rt.alloc());
-        packets.push_reads(&mut calls)?;
-        let replies = self.make(rt.alloc(), calls.as_slice())?;
-        let list = replies.as_slice();
-        packets.tell_each(rt, Detail::Packets, &mut Replies { list })
+        let mut reads = Reads {
+            tap: &mut self.tap,
+            marks: [NO_MARK; MOST_MARKS],
+        };
+        packets.tell_each(rt, Detail::Packets, &mut reads)
     }
 
     // Prints the counts.
     fn report<'a>(&mut self, rt: &(impl Print + AllocGlobal)) -> Result<(), Failure<'a>> {
-        let replies = self.make(rt.alloc(), &[Call::Report])?;
-        print_reply(rt, replies.as_slice())
-    }
-
-    // Makes the calls one after the other, and answers the reply to each.
-    fn make<'a>(&mut self, heap: Global, calls: &[Call<'_>]) -> Result<Vec<Reply>, Failure<'a>> {
-        let mut replies = vec![in heap; Reply::Load(Ok(())); calls.len()]?;
-        run(&mut self.tap, calls, replies.as_mut_slice());
-        Ok(replies)
+        print_answer(rt, &make_call(&mut self.tap, Call::Report, &mut []))
     }
 }
 
@@ -110,31 +103,32 @@ impl<S: Store> LineTaker for Session<S> {
     }
 }
 
-impl Telling for Replies<'_> {
-    // Prints what the packet was read as. Refused as the read was.
+impl<S: Store> Telling for Reads<'_, S> {
+    // Reads the packet, and prints what it was read as. Refused as the read is.
     fn tell<'f>(
         &mut self,
         rt: &(impl Print + AllocGlobal),
-        number: usize,
         packet: &[u8],
     ) -> Result<(), Failure<'f>> {
-        if let Some(Reply::Read { answer, marks }) = self.list.get(number) {
-            let reading = (*answer).map_err(Refusal::from)?;
-            print_reading(rt, packet, &reading, marks)?;
+        let room = MOST_MARKS;
+        let call = Call::Read { packet, room };
+        if let Answer::Read(answer) = make_call(self.tap, call, &mut self.marks) {
+            let reading = answer.map_err(Refusal::from)?;
+            print_reading(rt, packet, &reading, &self.marks)?;
         }
         Ok(())
     }
 }
 
 // Prints that a load was accepted, or a report. Refused as the load was.
-fn print_reply<'a>(rt: &impl Print, replies: &[Reply]) -> Result<(), Failure<'a>> {
-    match replies.first() {
-        Some(Reply::Load(answer)) => {
-            (*answer).map_err(Refusal::from)?;
+fn print_answer<'a>(rt: &impl Print, answer: &Answer) -> Result<(), Failure<'a>> {
+    match answer {
+        Answer::Load(loaded) => {
+            (*loaded).map_err(Refusal::from)?;
             println!(rt; "loaded")?;
         }
-        Some(Reply::Report(report)) => print_report(rt, report)?,
-        _ => {}
+        Answer::Report(report) => print_report(rt, report)?,
+        Answer::Read(_) => {}
     }
     Ok(())
 }

@@ -37,7 +37,6 @@ impl Telling for Walks<'_> {
     fn tell<'f>(
         &mut self,
         rt: &(impl Print + AllocGlobal),
-        _number: usize,
         packet: &[u8],
     ) -> Result<(), Failure<'f>> {
         let mut marks = vec![in rt.alloc(); NO_MARK; MOST_MARKS]?;

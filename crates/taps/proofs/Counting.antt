@@ -10,6 +10,7 @@ use Rattle.headers.specs.declared.kinds.Kind.{Kind}
 use Rattle.headers.specs.declared.mark.Mark.{Mark}
 use Rattle.headers.specs.Kinds.{kind_number, kind_at, kind_of}
 use Rattle.headers.proofs.KindLaws.{kind_back}
+use Rattle.walks.proofs.Fields.{number_small}
 use Rattle.walks.specs.declared.outcome.Ending.{Ending}
 use Rattle.taps.specs.declared.counts.Tally.{Tally}
 use Rattle.taps.specs.declared.counts.Endings.{Endings}
@@ -72,9 +73,6 @@ number_of n k e = grind (arith, nat_tests)
 
 number_of_none : (n : ℕ) → kind_of n ≡ None → 10 < n
 number_of_none n e = grind (arith, nat_tests)
-
-number_small : (k : Kind) → kind_number k ≤ 10
-number_small k = grind arith
 
 number_apart : (n : ℕ) (k : Kind) → 10 < n → eqb n (kind_number k) ≡ false
 number_apart n k h = ne_eqb n (kind_number k) (λ e. absurd (omega (arith, number_small k, e)))

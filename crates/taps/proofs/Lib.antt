@@ -2,3 +2,4 @@ pub mod Counting
 pub mod Loading
 pub mod Refused
 pub mod Reading
+pub mod Sound

@@ -8,9 +8,12 @@ use Rattle.compiler.specs.declared.fault.LoadFault.{LoadFault}
 use Rattle.compiler.specs.declared.program.Program.{Program}
 use Rattle.compiler.specs.Faults.{of_load}
 use Rattle.compiler.specs.Loading.{LoadApplies, Loaded}
+use Rattle.compiler.proofs.Refused.{read_is}
+use Rattle.readers.specs.Reading.{Programmed}
+use Rattle.walks.specs.Theorems.{Accepted}
 use Rattle.taps.specs.declared.tap.Tap.{Tap}
-use Rattle.taps.specs.Plain.{GraphAndPlan, PlainTap, loading}
-use Rattle.taps.specs.Plain.PlainLoad.{refused, accepted}
+use Rattle.taps.specs.Plain.{PlainTap, loading, said_by}
+use Rattle.taps.specs.Plain.LoadLeaves.{refused, accepted}
 use Rattle.taps.specs.Following.{LoadedAs, Follows, LoadFollows}
 
 -- a tap with another store, and with another program
@@ -25,7 +28,7 @@ module _ {S : Type 0} (meaning : S → Meaning) (t : Tap S) (s : S) (file plan :
       → LoadFollows p file plan (meaning t.inner.store).capacity (Err e) (Follows meaning (over t s))
   load_refused e least same = record {
     next = p;
-    plain = refused least;
+    plain = record { answers = least; leaves = refused };
     follows = record {
       loaded = subst (λ (m : Meaning). LoadedAs p.loaded t.inner.program m.rows) (sym same) f.loaded;
       counts = f.counts;
@@ -36,12 +39,15 @@ module _ {S : Type 0} (meaning : S → Meaning) (t : Tap S) (s : S) (file plan :
       → Loaded minimum file plan (meaning t.inner.store) (meaning s) program
       → LoadFollows p file plan (meaning t.inner.store).capacity (Ok tt) (Follows meaning (holding t s program))
   load_accepted program bytes none l =
-      let its : GraphAndPlan = record { graph = l.graph; chain = chain_in plan; accepted = record { file = file; bytes = bytes; read = l.read }; lawful = l.lawful } in
+      let its = said_by file plan in
+      let read : Accepted minimum l.graph = record { file = file; bytes = bytes; read = l.read } in
+      let programmed : Programmed minimum l.graph its.chain program (meaning s).rows =
+      record { accepted = read; lawful = l.lawful; stands = l.stands; holds = l.holds } in
       record {
         next = loading its p;
-        plain = accepted none l.read refl;
+        plain = record { answers = (none, tt); leaves = accepted };
         follows = record {
-          loaded = record { accepted = its.accepted; lawful = its.lawful; stands = l.stands; holds = ap (λ (m : Meaning). m.rows) l.rows };
+          loaded = subst (λ g. Programmed minimum g its.chain program (meaning s).rows) (read_is minimum file l.graph (sym l.read)) programmed;
           counts = f.counts;
         };
       }

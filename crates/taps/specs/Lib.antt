@@ -3,3 +3,4 @@ pub mod Counts
 pub mod Held
 pub mod Plain
 pub mod Following
+pub mod Laws

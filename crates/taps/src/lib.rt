@@ -5,4 +5,5 @@
 pub mod counts;
 pub mod fault;
 mod inner;
+pub mod laws;
 pub mod tap;

@@ -3,12 +3,11 @@ ghost use Rattle.std.specs.Prelude.{◌≡◌, length, OnErr};
 ghost use Rattle.refusals.specs.Searching.{fault_of};
 ghost use Rattle.headers.specs.Table.{minimum_in, standard_table};
 ghost use Rattle.compiler.specs.Loading.{load_fault};
-ghost use Rattle.readers.specs.Reading.{after_questions};
 ghost use Rattle.taps.specs.Faults.{packet_fault};
 ghost use Rattle.taps.specs.Counts.{report_of};
 ghost use Rattle.taps.specs.Held.{report_in};
 ghost use Rattle.taps.specs.Plain.{PlainTap, fresh};
-ghost use Rattle.taps.specs.Following.{Follows, LoadFollows, ReadFollows, after_load, questions_in};
+ghost use Rattle.taps.specs.Following.{Follows, LoadFollows, ReadFollows, PutsQuestions, MarksHaveFields, after_load};
 
 use crate::counts::Report;
 use crate::fault::PacketFault;
@@ -69,9 +68,14 @@ impl<S: Store> Tap<S> {
     pub fn read(&mut self, packet: &[u8], marks: &mut [Mark]) -> Result<Reading, PacketFault>
         ensures is { fault_of result ≡ packet_fault (length packet.now) (length marks.old) self.old.inner.program }
         ensures kept { OnErr result ((self.new ≡ self.old) × (marks.new ≡ marks.old)) }
-        ensures store { S.Store.meaning self.new.inner.store ≡ after_questions (questions_in result) (S.Store.meaning self.old.inner.store) }
+        ensures store { PutsQuestions (S.Store.meaning self.old.inner.store) (S.Store.meaning self.new.inner.store) result }
         ensures capacity { (S.Store.meaning self.new.inner.store).capacity ≡ (S.Store.meaning self.old.inner.store).capacity }
-        ensures follows { (p : PlainTap) → Follows S.Store.meaning self.old p → ReadFollows p packet.now marks.old marks.new result (Follows S.Store.meaning self.new) }
+        ensures follows { (p : PlainTap) → Follows S.Store.meaning self.old p →
+            ReadFollows p packet.now marks.old marks.new result
+            (S.Store.meaning self.old.inner.store) (S.Store.meaning self.new.inner.store)
+            (Follows S.Store.meaning self.new) }
+        ensures fields { (p : PlainTap) → Follows S.Store.meaning self.old p →
+            MarksHaveFields (length packet.now) marks.new result }
     {
         if packet.len() > MOST_PACKET {
             return Err(PacketFault::LongPacket);

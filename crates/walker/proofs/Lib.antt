@@ -4,3 +4,4 @@ pub mod Refused
 pub mod Later
 pub mod Stepping
 pub mod Marking
+pub mod Fields

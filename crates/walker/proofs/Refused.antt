@@ -3,15 +3,16 @@ use Rattle.std.specs.Option.{option_or, option_map}
 use Rattle.std.proofs.Common.{◌≡◌, ℕ, ◌≤◌, false, leb, ◌⊎◌, List, Some, None, sym, refl, ap, ◌∙◌, subst, inl, inr, arith}
 use Rattle.std.proofs.lemmas.Bool.{cases_lt, leb-false, lt-leb}
 use Rattle.refusals.specs.Searching.{unless}
-use Rattle.refusals.specs.Least.{rank, NotAfter, Least}
+use Rattle.refusals.specs.Least.{NotAfter, Least}
 use Rattle.refusals.proofs.Lowest.{Lowest, lowest_like, lowest_or, lowest_unless, lowest_mapped}
+use Rattle.refusals.proofs.Ranking.{lower}
 use Rattle.headers.specs.declared.kinds.Kind.{Kind}
 use Rattle.graphs.specs.declared.fault.GraphFault.{GraphFault}
 use Rattle.graphs.specs.View.{NodeView}
 use Rattle.graphs.specs.Refusals.{GraphApplies}
 use Rattle.graphs.specs.Checking.{graph_fault}
 use Rattle.graphs.proofs.Refused.{graph_lowest}
-use Rattle.graph_reader.proofs.Refused.{graph_ranks}
+use Rattle.graph_reader.proofs.Refused.{graph_numbers}
 use Rattle.walker.specs.declared.fault.WalkFault.{WalkFault}
 use Rattle.walker.specs.declared.fault.WalkFault.TheVariants.{Graph, LongPacket, FewMarks}
 use Rattle.walker.specs.Faults.{of_walk}
@@ -48,13 +49,13 @@ module _ (minimum : Kind → ℕ) (g : List NodeView) (size room : ℕ) where
       lowest_like order Told (WalkApplies minimum g size room) spoken applied (walk_fault minimum g size room)
       (lowest_or order OfGraph (λ e. OfPacket e ⊎ OfMarks e)
       (λ e d p q. elim q [
-        | inl w ↦ inl (omega (arith, ap (λ x. rank (of_walk x)) p.1, graph_ranks p.0, ap (λ x. rank (of_walk x)) w.0))
-        | inr w ↦ inl (omega (arith, ap (λ x. rank (of_walk x)) p.1, graph_ranks p.0, ap (λ x. rank (of_walk x)) w.0))
+        | inl w ↦ lower (of_walk e) (of_walk d) (omega (arith, ap (λ x. (of_walk x).number) p.1, graph_numbers p.0, ap (λ x. (of_walk x).number) w.0)) (omega (arith, ap (λ x. (of_walk x).number) w.0))
+        | inr w ↦ lower (of_walk e) (of_walk d) (omega (arith, ap (λ x. (of_walk x).number) p.1, graph_numbers p.0, ap (λ x. (of_walk x).number) w.0)) (omega (arith, ap (λ x. (of_walk x).number) w.0))
       ])
       (option_map Graph (graph_fault minimum g)) (option_or (unless (leb size most_bytes) LongPacket) (unless (leb most_marks room) FewMarks))
       (lowest_mapped order Graph (GraphApplies minimum g) (graph_fault minimum g) (graph_lowest minimum g))
       (lowest_or order OfPacket OfMarks
-      (λ e d p q. inl (omega (arith, ap (λ x. rank (of_walk x)) p.0, ap (λ x. rank (of_walk x)) q.0)))
+      (λ e d p q. lower (of_walk e) (of_walk d) (omega (arith, ap (λ x. (of_walk x).number) p.0, ap (λ x. (of_walk x).number) q.0)) (omega (arith, ap (λ x. (of_walk x).number) q.0)))
       (unless (leb size most_bytes) LongPacket) (unless (leb most_marks room) FewMarks)
       (lowest_unless order (leb size most_bytes) LongPacket (inr (refl, inr (refl, omega arith))))
       (lowest_unless order (leb most_marks room) FewMarks (inr (refl, inr (refl, omega arith))))))

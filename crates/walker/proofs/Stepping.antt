@@ -16,7 +16,8 @@ use Rattle.walks.specs.Outcomes.{outcome}
 use Rattle.walks.specs.Turning.{held, checked}
 use Rattle.walks.proofs.Steps.{decides_held}
 use Rattle.walker.specs.declared.step.Step.{Step}
-use Rattle.walker.specs.Headers.{header_refusal, key_of}
+use Rattle.walks.specs.Turning.{header_refusal}
+use Rattle.walker.specs.Headers.{key_of}
 use Rattle.walker.specs.Steps.{marked, step_at, step_to, Stepped}
 
 module _ (minimum : Kind → ℕ) (g : List NodeView) (p : List ℕ) (n at : ℕ) where

@@ -3,8 +3,8 @@ ghost use Rattle.std.specs.Prelude.{◌≡◌, ◌+◌, ◌/◌, ◌^◌, ◌≤
 ghost use Rattle.refusals.specs.Searching.{fault_of};
 ghost use Rattle.walks.specs.Bytes.{byte_at};
 ghost use Rattle.walks.specs.Walk.{measured, length_places};
-ghost use Rattle.walks.specs.Turning.{held};
-ghost use Rattle.walker.specs.Headers.{header_refusal, size_refusal, key_of};
+ghost use Rattle.walks.specs.Turning.{held, header_refusal};
+ghost use Rattle.walker.specs.Headers.{size_refusal, key_of};
 
 use graphs::graph::Length;
 use octets::read::byte_at;

@@ -1,12 +1,12 @@
 // A packet read one header at a time, straight from the graph.
-ghost use Rattle.std.specs.Prelude.{◌≡◌, ◌≤◌, length, OnErr};
+ghost use Rattle.std.specs.Prelude.{◌≡◌, ◌≤◌, length, IfOk, OnErr};
 ghost use Rattle.refusals.specs.Searching.{fault_of};
 ghost use Rattle.refusals.specs.Least.{Answers};
 ghost use Rattle.headers.specs.Table.{minimum_in, standard_table};
 ghost use Rattle.graphs.specs.View.{graph_view};
 ghost use Rattle.walker.specs.Faults.{of_walk};
 ghost use Rattle.walker.specs.Refusals.{most_bytes, most_marks, WalkApplies, walk_fault, NoFault};
-ghost use Rattle.walker.specs.Walked.{WalkedAs};
+ghost use Rattle.walker.specs.Walked.{MarkedWithFields, WalkedAs};
 
 use crate::fault::WalkFault;
 use crate::step::{Course, Step};
@@ -30,12 +30,13 @@ pub struct Walked {
 }
 
 /// Walks a packet through a graph from node 0 at offset 0, and writes each header's mark in order
-/// to the front of `marks`; those behind stay. Refused by 4 to 6 as `check_graph` refuses the
-/// graph, then by 10 if the packet has more than 9,600 bytes, then by 11 if there are fewer than
-/// 32 marks; a refused call changes nothing.
+/// to the front of `marks`; those behind stay. Each mark has its fields: none is refused by 17.
+/// Refused by 4 to 6 as `check_graph` refuses the graph, then by 10 if the packet has more than
+/// 9,600 bytes, then by 11 if there are fewer than 32 marks; a refused call changes nothing.
 pub fn walk(graph: &Graph, packet: &[u8], marks: &mut [Mark]) -> Result<Walked, WalkFault>
     ensures is { fault_of result ≡ walk_fault (minimum_in standard_table) (graph_view graph.now) (length packet.now) (length marks.old) }
     ensures answers { Answers of_walk (WalkApplies (minimum_in standard_table) (graph_view graph.now) (length packet.now) (length marks.old)) (WalkedAs (minimum_in standard_table) (graph_view graph.now) packet.now marks.old marks.new) result }
+    ensures fields { IfOk result (MarkedWithFields standard_table packet.now marks.new) }
     ensures kept { OnErr result (marks.new ≡ marks.old) }
 {
     walk_by(&KindTable::standard(), graph, packet, marks)

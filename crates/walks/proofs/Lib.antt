@@ -11,4 +11,4 @@ pub mod Steps
 pub mod Once
 pub mod Whole
 pub mod Accepted
-pub mod Examples
+pub mod Fields

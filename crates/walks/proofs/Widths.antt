@@ -8,7 +8,7 @@ use Rattle.headers.specs.declared.kinds.Kind.{Kind}
 use Rattle.patterns.specs.declared.row.Target.{Target}
 use Rattle.patterns.specs.declared.row.Target.TheVariants as to
 use Rattle.graphs.specs.View.{NodeView, node_at}
-use Rattle.walks.specs.Walk.{Pos, past}
+use Rattle.walks.specs.Walk.{past}
 use Rattle.walks.specs.Rows.{Cell, Piece, tried, pieces_at, Entry, alone, join, closing, leads_to, expand, entries}
 use Rattle.walks.specs.Plans.{IsTarget, Linked, lookups}
 use Rattle.walks.specs.Turns.{keys_at}
@@ -100,6 +100,6 @@ module _ (minimum : Kind → ℕ) (g : List NodeView) (sound : Sound minimum g) 
       (alone_ahead n r h))
       (pieces_at g n) (led_on n l)
 
-pub length_keys : (g : List NodeView) (p : List ℕ) (cs : List ℕ) (n : ℕ) (at : Pos) → length (keys_at g p n cs at) ≡ lookups g n cs
+pub length_keys : (g : List NodeView) (p : List ℕ) (cs : List ℕ) (n : ℕ) (at : ℕ) → length (keys_at g p n cs at) ≡ lookups g n cs
 length_keys g p [] n at = length-map _ _
 length_keys g p (c ∷ cs) n at = rw (length-append, length-map, length_keys g p cs c (past g p n at))

@@ -7,4 +7,3 @@ pub mod Turns
 pub mod Turning
 pub mod Theorems
 pub mod Samples
-pub mod Worked

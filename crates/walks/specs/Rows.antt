@@ -61,7 +61,8 @@ ternary_piece w r = piece (filled free w (cells_of 4 r.value r.mask)) r.target
 abbrev pub block_piece : ℕ → Target → Block → Piece
 block_piece w t b = piece (filled free w (cells_of 2 b.value b.mask)) t
 
--- and a range as many as it has blocks
+-- and a range as many as it has blocks. This is what has to be believed of a range's rows: what the compiler has of them is proved to
+-- be the same. The split of a range is computed (`split_of`); the rule that it follows is `SplitsInto`, proved of it
 abbrev pub range_pieces : ℕ → RangeRow → List Piece
 range_pieces w r = map (block_piece w r.target) (split_of r.low r.high)
 
@@ -69,7 +70,8 @@ abbrev pub pieces : ℕ → RowsView → List Piece
 pieces w (ternary_rows rs) = map (ternary_piece w) rs
 pieces w (range_rows rs) = flat_map (range_pieces w) rs
 
--- a node's rows in the order in which a store tries them
+-- a node's rows in the order in which a store tries them: that of the file. The rows for the store and their count are stated over it,
+-- so that another order, with another rule for which row decides, changes it and `decide` and nothing between
 abbrev pub tried : RowsView → RowsView
 tried rows = rows
 
@@ -78,7 +80,8 @@ pieces_at g n = pieces (length (node_at g n).places) (tried (node_at g n).rows)
 
 -- Rows of a node and its chain
 
--- what a fitting row says: how many headers are passed beyond the first, and where to go, or none
+-- what a fitting row says: how many headers are passed beyond the first (a row passes one header more than that), and where to go, or
+-- none
 abbrev pub action : ℕ → Option Target → Action
 action k t = record { beyond = k; target = t }
 

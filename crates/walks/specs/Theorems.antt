@@ -1,7 +1,11 @@
 -- What is proved of walk, rows and turns.
 use Rattle.std.specs.Prelude.{◌≡◌, ℕ, ◌+◌, ◌<◌, ◌≤◌, List, [], length, Ok, slice_index}
+use Rattle.std.specs.List.{AllByRecursion}
 use Rattle.headers.specs.declared.kinds.Kind.{Kind}
 use Rattle.headers.specs.declared.mark.Mark.{Mark}
+use Rattle.headers.specs.declared.table.KindTable.{KindTable}
+use Rattle.headers.specs.Part.{HasItsFields}
+use Rattle.headers.specs.Table.{minimum_in, FieldsLieInside}
 use Rattle.graphs.specs.View.{NodeView}
 use Rattle.graph_reader.specs.Reading.{reading}
 use Rattle.stores.specs.declared.question.Question.{Question}
@@ -30,6 +34,13 @@ pub record OneWalk (minimum : Kind → ℕ) (g : List NodeView) (p : List ℕ) :
 
 abbrev pub WalkIsOne : Type 0
 WalkIsOne = (minimum : Kind → ℕ) (g : List NodeView) → Accepted minimum g → (p : List ℕ) → OneWalk minimum g p
+
+-- No field of a mark that a walk made is refused, whatever the graph: the header has the fewest bytes of its kind and lies in the
+-- packet. So it is for every table of kinds whose fields lie inside the shortest headers, as those of the built-in table do
+abbrev pub MarksHaveTheirFields : Type 0
+MarksHaveTheirFields =
+    (t : KindTable) → FieldsLieInside t → (g : List NodeView) (p : List ℕ) (ms : List Mark) (o : Outcome) → PlainWalk (minimum_in t) g p ms o
+    → AllByRecursion (HasItsFields t (length p)) ms
 
 -- The turns
 

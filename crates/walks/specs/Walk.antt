@@ -16,16 +16,6 @@ use Rattle.walks.specs.declared.outcome.Outcome.{Outcome}
 use Rattle.walks.specs.Bytes.{byte_at, spelled_in}
 use Rattle.walks.specs.Outcomes.{outcome}
 
--- where a walk stands in a packet: so far, no more than an offset
-abbrev pub Pos : Type 0
-Pos = ℕ
-
-abbrev pub start : Pos
-start = 0
-
-abbrev pub offset : Pos → ℕ
-offset at = at
-
 -- the places that a length rule reads
 abbrev pub length_places : Length → List ℕ
 length_places (Fixed n) = []
@@ -48,58 +38,58 @@ lookup_width = 4
 abbrev pub Held : List ℕ → ℕ → List ℕ → Type 0
 Held p at places = AllByRecursion (λ i. at + i < length p) places
 
--- what stands at node n of a graph, and at a position of a packet
+-- what stands at node n of a graph, and at an offset of a packet
 module _ (g : List NodeView) (p : List ℕ) where
-  abbrev pub size_at : ℕ → Pos → ℕ
-  size_at n at = measured (node_at g n).len p (offset at)
+  abbrev pub size_at : ℕ → ℕ → ℕ
+  size_at n at = measured (node_at g n).len p at
 
-  -- the position behind the header
-  abbrev pub past : ℕ → Pos → Pos
-  past n at = offset at + size_at n at
+  -- the offset behind the header
+  abbrev pub past : ℕ → ℕ → ℕ
+  past n at = at + size_at n at
 
-  abbrev pub mark_at : ℕ → Pos → Mark
-  mark_at n at = record { node = n; kind = kind_number (node_at g n).kind; offset = offset at; length = size_at n at }
+  abbrev pub mark_at : ℕ → ℕ → Mark
+  mark_at n at = record { node = n; kind = kind_number (node_at g n).kind; offset = at; length = size_at n at }
 
   -- the lookup bytes, in order
-  abbrev pub key_at : ℕ → Pos → List ℕ
-  key_at n at = map (λ i. byte_at p (offset at + i)) (node_at g n).places
+  abbrev pub key_at : ℕ → ℕ → List ℕ
+  key_at n at = map (λ i. byte_at p (at + i)) (node_at g n).places
 
   -- the target of the row that decides, if one fits
-  abbrev pub decide_at : ℕ → Pos → Option Target
+  abbrev pub decide_at : ℕ → ℕ → Option Target
   decide_at n at = decide (node_at g n).rows (spelled_in lookup_width (key_at n at))
 
   -- done: the payload begins behind the header of node n
-  abbrev pub finished : ℕ → Pos → Outcome
-  finished n at = outcome Done n (offset (past n at))
+  abbrev pub finished : ℕ → ℕ → Outcome
+  finished n at = outcome Done n (past n at)
 
 -- `minimum` has the fewest bytes of each kind.
 -- The three checks of a header, in their order: a byte that is read lies outside the packet; the length is below the kind's
 -- minimum; the header overruns the packet
-pub data Refused (minimum : Kind → ℕ) (g : List NodeView) (p : List ℕ) (n : ℕ) (at : Pos) : Ending → Type 0 where
-  outside : (Held p (offset at) (reads (node_at g n)) → ⊥) → Refused minimum g p n at Cut
-  under : Held p (offset at) (reads (node_at g n)) → size_at g p n at < minimum (node_at g n).kind → Refused minimum g p n at Short
-  overrun : Held p (offset at) (reads (node_at g n)) → minimum (node_at g n).kind ≤ size_at g p n at → length p < offset (past g p n at)
+pub data Refused (minimum : Kind → ℕ) (g : List NodeView) (p : List ℕ) (n : ℕ) (at : ℕ) : Ending → Type 0 where
+  outside : (Held p at (reads (node_at g n)) → ⊥) → Refused minimum g p n at Cut
+  under : Held p at (reads (node_at g n)) → size_at g p n at < minimum (node_at g n).kind → Refused minimum g p n at Short
+  overrun : Held p at (reads (node_at g n)) → minimum (node_at g n).kind ≤ size_at g p n at → length p < (past g p n at)
       → Refused minimum g p n at Cut
 
 -- a header that passes all three
-pub record Header (minimum : Kind → ℕ) (g : List NodeView) (p : List ℕ) (n : ℕ) (at : Pos) : Type 0 where
-  pub held : Held p (offset at) (reads (node_at g n))
+pub record Header (minimum : Kind → ℕ) (g : List NodeView) (p : List ℕ) (n : ℕ) (at : ℕ) : Type 0 where
+  pub held : Held p at (reads (node_at g n))
   pub long : minimum (node_at g n).kind ≤ size_at g p n at
-  pub within : offset (past g p n at) ≤ length p
+  pub within : (past g p n at) ≤ length p
 
--- The walk from node n at a position on: its marks and how it ends. A header that is not refused is marked, and then the deciding
+-- The walk from node n at an offset on: its marks and how it ends. A header that is not refused is marked, and then the deciding
 -- row says: none fits; the packet is dropped; done; or on at a node, behind the header
-pub data Walk (minimum : Kind → ℕ) (g : List NodeView) (p : List ℕ) : ℕ → Pos → List Mark → Outcome → Type 0 where
-  refused : {n : ℕ} {at : Pos} {e : Ending} → Refused minimum g p n at e → Walk minimum g p n at [] (outcome e n (offset at))
-  unfit : {n : ℕ} {at : Pos} → Header minimum g p n at → decide_at g p n at ≡ None
-      → Walk minimum g p n at (mark_at g p n at ∷ []) (outcome Unfit n (offset at))
-  drops : {n : ℕ} {at : Pos} → Header minimum g p n at → decide_at g p n at ≡ Some to.Dropped
-      → Walk minimum g p n at (mark_at g p n at ∷ []) (outcome Dropped n (offset at))
-  ends : {n : ℕ} {at : Pos} → Header minimum g p n at → decide_at g p n at ≡ Some to.Done
+pub data Walk (minimum : Kind → ℕ) (g : List NodeView) (p : List ℕ) : ℕ → ℕ → List Mark → Outcome → Type 0 where
+  refused : {n : ℕ} {at : ℕ} {e : Ending} → Refused minimum g p n at e → Walk minimum g p n at [] (outcome e n at)
+  unfit : {n : ℕ} {at : ℕ} → Header minimum g p n at → decide_at g p n at ≡ None
+      → Walk minimum g p n at (mark_at g p n at ∷ []) (outcome Unfit n at)
+  drops : {n : ℕ} {at : ℕ} → Header minimum g p n at → decide_at g p n at ≡ Some to.Dropped
+      → Walk minimum g p n at (mark_at g p n at ∷ []) (outcome Dropped n at)
+  ends : {n : ℕ} {at : ℕ} → Header minimum g p n at → decide_at g p n at ≡ Some to.Done
       → Walk minimum g p n at (mark_at g p n at ∷ []) (finished g p n at)
-  on : {n m : ℕ} {at : Pos} {ms : List Mark} {o : Outcome} → Header minimum g p n at → decide_at g p n at ≡ Some (to.Node m)
+  on : {n m : ℕ} {at : ℕ} {ms : List Mark} {o : Outcome} → Header minimum g p n at → decide_at g p n at ≡ Some (to.Node m)
       → Walk minimum g p m (past g p n at) ms o → Walk minimum g p n at (mark_at g p n at ∷ ms) o
 
--- the walk of a packet: from node 0 on
+-- the walk of a packet: from node 0 at offset 0 on
 abbrev pub PlainWalk : (Kind → ℕ) → List NodeView → List ℕ → List Mark → Outcome → Type 0
-PlainWalk minimum g p ms o = Walk minimum g p 0 start ms o
+PlainWalk minimum g p ms o = Walk minimum g p 0 0 ms o

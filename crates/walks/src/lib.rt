@@ -6,4 +6,3 @@
 pub mod action;
 pub mod outcome;
 pub mod theorems;
-pub mod worked;

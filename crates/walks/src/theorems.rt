@@ -1,10 +1,16 @@
 // The theorems, each on the contract of a function that does nothing.
-ghost use Rattle.walks.specs.Theorems.{WalkIsOne, TurnsWalkTheWalk, RowsAreCounted, StatesStandApart, WindowIsFewest};
+ghost use Rattle.walks.specs.Theorems.{WalkIsOne, TurnsWalkTheWalk, RowsAreCounted, StatesStandApart, WindowIsFewest, MarksHaveTheirFields};
 
 /// Does nothing. Its contract: on every graph that reading accepts, each packet has one plain walk, of
 /// at most 32 marks.
 pub fn walk_is_one()
     ensures { WalkIsOne }
+{}
+
+/// Does nothing. Its contract: each mark of a plain walk has its fields. Whatever field is asked for, it
+/// is handed out or the kind has none of that number; none is refused.
+pub fn marks_have_their_fields()
+    ensures { MarksHaveTheirFields }
 {}
 
 /// Does nothing. Its contract: for every graph that reading accepts, every plan that keeps the rules and

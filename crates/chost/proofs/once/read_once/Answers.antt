@@ -1,11 +1,14 @@
-use Rattle.std.proofs.Common.{length, Ok, Err, Result, sym, ap, ◌∙◌, subst}
+use Rattle.std.proofs.Common.{length, Err, Result, refl, sym, ap, ◌∙◌, subst}
 use Rattle.std.proofs.lemmas.Result.{err_from_is_err_and}
 use Rattle.refusals.specs.declared.refusal.Refusal.{Refusal}
+use Rattle.refusals.specs.Searching.{fault_of}
 use Rattle.readers.specs.declared.read.Reading.{Reading}
-use Rattle.taps.specs.Plain.{fresh}
+use Rattle.compiler.specs.Faults.{of_load}
+use Rattle.taps.specs.Faults.{of_packet}
+use Rattle.taps.specs.Plain.{fresh, said_by}
 use Rattle.chost.specs.Once.{Once}
 use Rattle.chost.specs.Once.Once.{unloaded, unread, read}
-use Rattle.chost.proofs.Reading.{loads, fault_same, said, read_refused, read_accepted}
+use Rattle.chost.proofs.Reading.{loads, fault_same, said, answered_by, refused_so, not_read}
 use Rattle.chost.proofs.once.read_once.Goals as goal
 
 pub returns-in_err-load-clause-once : goal.returns-in_err-load-clause-once
@@ -19,12 +22,11 @@ pub returns-in_err-read-clause-is : goal.returns-in_err-read-clause-is
 returns-in_err-read-clause-is c =
     let e = err_from_is_err_and c.from_residual-in_err-read.result c.from_residual-in_err-read.ensures.1 in
     let load = c.in_ok-load.ensures.follows fresh c.new-tap.ensures.follows in
-    let its = loads c.args.graph.now c.args.plan.now load.plain in
     let size = length c.args.packet.now in
     let lent = length c.args.marks.now in
-    e.1 ∙ ap Err e.2
-    ∙ read_refused c.args.graph.now c.args.plan.now c.args.packet.now lent _ c.in_ok-load.ensures.is
-    (c.in_err-read.ensures.is ∙ fault_same size lent load.next.loaded its.its _ _ load.follows.loaded its.there)
+    ap fault_of (e.1 ∙ ap Err e.2)
+    ∙ refused_so c.args.graph.now c.args.plan.now c.args.packet.now lent c.in_ok-load.ensures.is
+    (c.in_err-read.ensures.is ∙ fault_same size lent load.next.loaded (said_by c.args.graph.now c.args.plan.now) _ _ load.follows.loaded (loads c.args.graph.now c.args.plan.now load.plain))
 
 pub returns-in_err-read-clause-once : goal.returns-in_err-read-clause-once
 returns-in_err-read-clause-once c =
@@ -36,19 +38,32 @@ returns-in_err-read-clause-once c =
 pub returns-clause-is : goal.returns-clause-is
 returns-clause-is c =
     let load = c.in_ok-load.ensures.follows fresh c.new-tap.ensures.follows in
-    let its = loads c.args.graph.now c.args.plan.now load.plain in
     let size = length c.args.packet.now in
     let lent = length c.args.marks.now in
-    let its_read = c.in_ok-read.ensures.follows load.next load.follows in
-    ap Ok (said c.args.graph.now c.args.plan.now c.args.packet.now its its_read.plain).is
-    ∙ read_accepted c.args.graph.now c.args.plan.now c.args.packet.now lent c.in_ok-load.ensures.is
-    (c.in_ok-read.ensures.is ∙ fault_same size lent load.next.loaded its.its _ _ load.follows.loaded its.there)
+    refused_so c.args.graph.now c.args.plan.now c.args.packet.now lent c.in_ok-load.ensures.is
+    (c.in_ok-read.ensures.is ∙ fault_same size lent load.next.loaded (said_by c.args.graph.now c.args.plan.now) _ _ load.follows.loaded (loads c.args.graph.now c.args.plan.now load.plain))
 
-pub returns-clause-front : goal.returns-clause-front
-returns-clause-front c =
+pub returns-clause-lent : goal.returns-clause-lent
+returns-clause-lent c =
     let load = c.in_ok-load.ensures.follows fresh c.new-tap.ensures.follows in
     let its_read = c.in_ok-read.ensures.follows load.next load.follows in
-    (said c.args.graph.now c.args.plan.now c.args.packet.now (loads c.args.graph.now c.args.plan.now load.plain) its_read.plain).front
+    let s = said c.args.graph.now c.args.plan.now c.args.packet.now (loads c.args.graph.now c.args.plan.now load.plain) its_read.plain in
+    record { few = s.tells.few.1; enough = s.enough }
+
+pub returns-clause-read : goal.returns-clause-read
+returns-clause-read c = λ none.
+    let load = c.in_ok-load.ensures.follows fresh c.new-tap.ensures.follows in
+    let its_read = c.in_ok-read.ensures.follows load.next load.follows in
+    answered_by c.args.graph.now c.args.plan.now c.args.packet.now (said c.args.graph.now c.args.plan.now c.args.packet.now (loads c.args.graph.now c.args.plan.now load.plain) its_read.plain)
+
+pub returns-in_err-load-clause-read : goal.returns-in_err-load-clause-read
+returns-in_err-load-clause-read c = λ none ms o qs by.
+    not_read {e = of_load c.in_err-load.field-0.0} (refused_so c.args.graph.now c.args.plan.now c.args.packet.now (length c.args.marks.now) c.in_err-load.ensures.is refl) none
+
+pub returns-in_err-read-clause-read : goal.returns-in_err-read-clause-read
+returns-in_err-read-clause-read c = λ none ms o qs by.
+    let e = err_from_is_err_and c.from_residual-in_err-read.result c.from_residual-in_err-read.ensures.1 in
+    not_read {e = of_packet c.in_err-read.field-0.0} (sym (ap fault_of (e.1 ∙ ap Err e.2)) ∙ returns-in_err-read-clause-is c) none
 
 pub returns-clause-once : goal.returns-clause-once
 returns-clause-once c =

@@ -12,9 +12,9 @@ returns g c =
     let before = g.S.Store.meaning c.args.store.now in
     let after = g.S.Store.meaning c.compile_by.new.store in
     record {
-      is = c.compile_by.ensures.is ∙ ap (λ table. load_fault (minimum_in table) f p before.capacity) c.standard.ensures;
+      is = c.compile_by.ensures.is ∙ ap (λ table. load_fault (minimum_in table) f p before.capacity) c.standard.ensures.is;
       answers =
           subst (λ table. Answers of_load (LoadApplies (minimum_in table) f p before.capacity) (λ _. Loaded (minimum_in table) f p before after c.compile_by.new.program) c.compile_by.result)
-          c.standard.ensures c.compile_by.ensures.answers;
+          c.standard.ensures.is c.compile_by.ensures.answers;
       kept = c.compile_by.ensures.kept;
     }

@@ -7,7 +7,7 @@ use Rattle.compiler.specs.Held.{held}
 use Rattle.compiler.specs.Filled.{all_rows}
 use Rattle.compiler.specs.Sinks.{Sink, sunk, line_of}
 use Rattle.compiler.proofs.Heading.{all_heads}
-use Rattle.compiler.proofs.Stored.{rows_stored, actions_stored}
+use Rattle.compiler.proofs.Stored.{rows_stored, rows_held, actions_stored}
 use Rattle.compiler.proofs.compile.load.Goals as goal
 
 pub fill-requires : goal.fill-requires
@@ -24,7 +24,18 @@ returns-clause-rows g c =
     let rs = all_rows c.args.checked.now in
     let sink = c.fill.new.self in
     let after = c.fill.ensures.filled.after ∙ ap (λ s. sunk s (map line_of rs)) c.empty.ensures.after in
-    let e = rows_stored (g.S.Store.meaning c.args.store.now) (g.S.Store.meaning sink.store.now) (held sink.actions.now) rs after in
+    let n = rows_counted (graph_view c.args.checked.now.graph) (chain_of c.args.checked.now.chains) in
+    let e = rows_stored (g.S.Store.meaning c.args.store.now) (g.S.Store.meaning sink.store.now) (held sink.actions.now) rs after (omega (arith, n, c.requires.room)) in
+    let same = sym c.fill.ensures.filled.store in
+    let first = sym c.empty.ensures.store in
+    grind (arith, e, same, first)
+
+pub returns-clause-holds : goal.returns-clause-holds
+returns-clause-holds g c =
+    let rs = all_rows c.args.checked.now in
+    let sink = c.fill.new.self in
+    let after = c.fill.ensures.filled.after ∙ ap (λ s. sunk s (map line_of rs)) c.empty.ensures.after in
+    let e = rows_held (g.S.Store.meaning c.args.store.now) (g.S.Store.meaning sink.store.now) (held sink.actions.now) rs after in
     let same = sym c.fill.ensures.filled.store in
     let first = sym c.empty.ensures.store in
     grind (arith, e, same, first)

@@ -12,7 +12,7 @@ returns c =
     let file = c.args.file.now in
     let answer = seen c.read_graph_by.result in
     record {
-      is = c.read_graph_by.ensures.is ∙ ap (λ table. reading (minimum_in table) file) c.standard.ensures;
-      answers = subst (λ table. Answers of_read (Applies (minimum_in table) file) (λ nodes. encode nodes ≡ file) answer) c.standard.ensures c.read_graph_by.ensures.answers;
+      is = c.read_graph_by.ensures.is ∙ ap (λ table. reading (minimum_in table) file) c.standard.ensures.is;
+      answers = subst (λ table. Answers of_read (Applies (minimum_in table) file) (λ nodes. encode nodes ≡ file) answer) c.standard.ensures.is c.read_graph_by.ensures.answers;
       counts = c.read_graph_by.ensures.counts;
     }

@@ -1,5 +1,5 @@
 use Rattle.std.specs.Option.{option_map}
-use Rattle.std.proofs.Common.{◌≡◌, ℕ, take, replicate, Some, None, Ok, Err, Option, OnOk, Result, refl, sym, ap, ◌∙◌, rules}
+use Rattle.std.proofs.Common.{◌≡◌, ℕ, take, replicate, Some, None, Ok, Err, Option, OnOk, Result, refl, ap, ◌∙◌, rules}
 use Rattle.graphs.specs.View.{node_view}
 use Rattle.graph_reader.specs.declared.fault.FileFault.{FileFault}
 use Rattle.graph_reader.specs.declared.fault.FileFault.TheVariants.{Byte}
@@ -27,5 +27,5 @@ returns c =
       is = told;
       stands =
           where_ok c.check_record.result (first_wrong (record_for node)) c.args.n (record_for node ≡ record_of (node_view node)) told
-          (λ e. counts_right node put.result put.ensures.rows e (sym put.ensures.is));
+          (λ e. counts_right node put.result put.ensures.rows e);
     }

@@ -7,7 +7,7 @@ use Rattle.graphs.specs.View.{node_view, graph_view}
 use Rattle.graph_reader.specs.Encoding.{encode}
 use Rattle.graph_writer.specs.Writing.{Standing, write_fault, area_after}
 use Rattle.graph_writer.specs.Parts.{file_for}
-use Rattle.graph_writer.specs.Refusals.{ReadsBack}
+use Rattle.graph_writer.specs.Refusals.{ReadsBack, file_of}
 use Rattle.graph_writer.proofs.Putting.{file_encodes, written_all}
 use Rattle.graph_writer.proofs.Refused.{answered}
 use Rattle.graph_writer.proofs.Reread.{written_reads_back}
@@ -31,6 +31,7 @@ returns-in_err-first_fault c =
       answers =
           answered minimum g room (λ _. ReadsBack minimum (graph_view g)) (length file)
           (λ clear. let none : Some fault ≡ None = told ∙ clear in absurd (grind arith)) c.from_residual.result is;
+      as_read = λ laid. p.1 ∙ ap Err p.2 ∙ ap (λ o. unless_fault o (length (file_of g))) (c.in_err-first_fault.ensures.as_read laid);
     }
 
 pub returns : goal.returns
@@ -52,4 +53,5 @@ returns c =
       is = is;
       area = c.put_file.ensures.area ∙ ap (written area 0) same ∙ written_all area file ∙ ap (λ o. area_after o file area) none;
       answers = answered minimum g room (λ _. ReadsBack minimum (graph_view g)) (length file) (λ clear. written_reads_back minimum g room clear writable) (Ok c.put_file.result) is;
+      as_read = λ laid. ap Ok (c.put_file.ensures.is ∙ ap (λ ns. length (file_for ns)) shown) ∙ ap (λ o. unless_fault o (length (file_of g))) (c.in_ok-first_fault.ensures.as_read laid);
     }

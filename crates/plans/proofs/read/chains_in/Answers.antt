@@ -5,7 +5,7 @@ use Rattle.refusals.proofs.Searching.{found, passed}
 use Rattle.plans.specs.declared.fault.PlanFault.TheVariants.{Shape}
 use Rattle.plans.specs.Chains.{chain_at}
 use Rattle.plans.specs.Checking.{chain_right}
-use Rattle.plans.proofs.Chaining.{chain_said, chain_more, chain_less, chains_same}
+use Rattle.plans.proofs.Chaining.{chain_said, chain_more, chain_less, chains_whole, chains_same}
 use Rattle.plans.proofs.read.chains_in.Goals as goal
 
 pub returns-then-not-is_right-clause-fault : goal.returns-then-not-is_right-clause-fault
@@ -34,7 +34,10 @@ loop-node-preserved c =
       length-set _ _ _ ∙ c.loop-node.invariant.3,
     )
 
-pub returns-clause-says : goal.returns-clause-says
-returns-clause-says c =
+pub returns-clause-whole : goal.returns-clause-whole
+returns-clause-whole c =
     let size : length c.args.bytes.now ≡ 4 * c.loop-node.node = omega (arith, c.requires.size, c.as_chunks.ensures.front_len, c.loop-node-test.false, c.loop-node.auto.node-end) in
-    chains_same c.args.bytes.now c.loop-node.plan c.loop-node.node size c.loop-node.invariant.1 c.loop-node.invariant.2
+    chains_whole c.args.bytes.now c.loop-node.plan c.loop-node.node size c.loop-node.invariant.1 c.loop-node.invariant.2
+
+pub returns-clause-says : goal.returns-clause-says
+returns-clause-says c = chains_same c.args.bytes.now c.loop-node.plan (returns-clause-whole c)

@@ -20,7 +20,7 @@ returns-then-not-keeps_rules c =
     let g = graph_view c.args.graph.now in
     let chain = chain_of c.args.chains.now in
     let n = c.loop-node.node in
-    let wrong : keeps g n (chain n) ≡ false = cc (c.new.ensures.graph, c.new.ensures.node, c.new.ensures.behind, c.named_nodes.ensures.is, c.chain-chain.ensures, c.if-not-keeps_rules.ensures) in
+    let wrong : keeps g n (chain n) ≡ false = cc (c.new.ensures.graph, c.new.ensures.node, c.new.ensures.behind, c.named_nodes.ensures.is, c.chain-chain.ensures.says, c.if-not-keeps_rules.ensures) in
     found (λ n. unless (keeps g n (chain n)) (Rule n)) n (length g) c.loop-node.invariant (Rule n) (omega arith) (ap (λ b. unless b (Rule n)) wrong)
 
 pub loop-node-preserved : goal.loop-node-preserved
@@ -28,7 +28,7 @@ loop-node-preserved c =
     let g = graph_view c.args.graph.now in
     let chain = chain_of c.args.chains.now in
     let n = c.loop-node.node in
-    let right : keeps g n (chain n) ≡ true = cc (c.new.ensures.graph, c.new.ensures.node, c.new.ensures.behind, c.named_nodes.ensures.is, c.chain-chain.ensures, c.if-not-keeps_rules.ensures) in
+    let right : keeps g n (chain n) ≡ true = cc (c.new.ensures.graph, c.new.ensures.node, c.new.ensures.behind, c.named_nodes.ensures.is, c.chain-chain.ensures.says, c.if-not-keeps_rules.ensures) in
     passed (λ n. unless (keeps g n (chain n)) (Rule n)) n (length g) c.loop-node.invariant (omega arith) (ap (λ b. unless b (Rule n)) right)
 
 pub returns : goal.returns

@@ -14,7 +14,7 @@ returns c =
     let g = graph_view c.args.checked.now.graph in
     let n = c.args.node in
     let here : node_view c.node-here.result ≡ node_at g n = c.node-here.ensures.is in
-    let chain = c.chain-chain.ensures in
+    let chain = c.chain-chain.ensures.says in
     let behind = c.new-path.ensures.behind ∙ c.named_nodes.ensures.is ∙ chain in
     let all : held c.put_lookups.new.lookups ≡ looked_up g n (chain_of c.args.checked.now.chains n) =
     c.put_lookups.ensures ∙ ap (λ xs. xs ++ map (λ i. 0 + i) (looked_up (graph_view c.new-path.result.graph.now) c.new-path.result.node c.new-path.result.behind.now)) c.new-lookups.ensures

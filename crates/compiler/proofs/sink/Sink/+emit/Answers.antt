@@ -16,7 +16,7 @@ loop-piece-init g t c =
     let w = length c.lookup-width.result.now in
     let s = sink_of g.S.Store.meaning c.args.self.now in
     let k = c.new-piece-items.ensures in
-    let e = rows_begin gr n cs p w c.new-piece-items.result (ap node_view k.node ∙ c.here-here.ensures) (ap length c.lookup-width.ensures.is ∙ ap (λ v. length (node_view v).places) (sym k.node)) k.row k.blocks in
+    let e = rows_begin gr n cs p w c.new-piece-items.result (ap node_view k.node ∙ c.here-here.ensures.is) (ap length c.lookup-width.ensures.is ∙ ap (λ v. length (node_view v).places) (sym k.node)) k.row k.blocks in
     record {
       store = refl;
       actions = refl;

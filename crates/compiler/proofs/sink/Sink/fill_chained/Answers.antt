@@ -15,7 +15,7 @@ loop-node-preserved-then-is_empty g c =
     let n = c.loop-node.node in
     let s = sink_of g.S.Store.meaning c.loop-node.self in
     let i = c.loop-node.invariant in
-    let same = c.new-path.ensures.behind ∙ c.named_nodes.ensures.is ∙ c.chain-chain.ensures in
+    let same = c.new-path.ensures.behind ∙ c.named_nodes.ensures.is ∙ c.chain-chain.ensures.says in
     let none = chain_none gr chain n c.new-path.result.behind.now same (eqb-true _ 0 (sym c.is_empty.ensures ∙ c.if-is_empty.true)) in
     record {
       store = i.store;
@@ -30,7 +30,7 @@ fill_state-requires-clause-room g c =
     let n = c.loop-node.node in
     let path = c.new-path.ensures in
     let s = sink_of g.S.Store.meaning c.loop-node.self in
-    let same = path.behind ∙ c.named_nodes.ensures.is ∙ c.chain-chain.ensures in
+    let same = path.behind ∙ c.named_nodes.ensures.is ∙ c.chain-chain.ensures.says in
     let some =
     chain_some gr chain n c.new-path.result.behind.now same (eqb-false _ 0 (sym c.is_empty.ensures ∙ c.if-is_empty.false))
     ∙ path_rows (chain_base + n) c.new-path.result c.args.checked.now.graph path.graph path.node refl in
@@ -45,7 +45,7 @@ loop-node-preserved g c =
     let s = sink_of g.S.Store.meaning c.loop-node.self in
     let i = c.loop-node.invariant in
     let e = c.fill_state.ensures.filled in
-    let same = path.behind ∙ c.named_nodes.ensures.is ∙ c.chain-chain.ensures in
+    let same = path.behind ∙ c.named_nodes.ensures.is ∙ c.chain-chain.ensures.says in
     let some =
     chain_some gr chain n c.new-path.result.behind.now same (eqb-false _ 0 (sym c.is_empty.ensures ∙ c.if-is_empty.false))
     ∙ path_rows (chain_base + n) c.new-path.result c.args.checked.now.graph path.graph path.node refl in

@@ -1,5 +1,5 @@
 use Rattle.std.proofs.Common.{◌<◌, length, ap, ◌∙◌, arith}
-use Rattle.slices.specs.Piled.{of_listing}
+use Rattle.stores.specs.Listed.{of_listing}
 use Rattle.plan_examples.specs.Limits.{limited}
 use Rattle.plan_examples.specs.LimitsLemmas.{listing_free, limited_admits, limited_more}
 use Rattle.plan_examples.proofs.limited.LimitedStore.append.Goals as goal

@@ -1,6 +1,8 @@
-use Rattle.std.proofs.Common.{refl}
+use Rattle.std.proofs.Common.{replicate, get_or, ap, ◌∙◌}
+use Rattle.plans.specs.declared.chains.Chain.{Chain}
+use Rattle.plans.specs.Chains.{no_chain}
 use Rattle.plans.proofs.Chaining.{none_anywhere}
 use Rattle.plans.proofs.chains.Chains.none.Goals as goal
 
-pub returns : goal.returns
-returns c = record { is = none_anywhere c.none.result c.none.ensures.is 32; whole = refl }
+pub returns-clause-says : goal.returns-clause-says
+returns-clause-says c = λ n. ap (λ (x : Chain). get_or (replicate 32 x) n no_chain) c.none.ensures ∙ none_anywhere 32 n

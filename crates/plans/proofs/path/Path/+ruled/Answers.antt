@@ -12,8 +12,8 @@ returns-then-not-is_fixed t c =
     let v = node_view c.here-here.result in
     let cs = c.args.self.now.behind.now in
     elim c.then-not-is_fixed.branch [
-      | then-not-is_fixed-via-then-not-is_fixed w ↦ sym (ruled_counted g c.args.room n v c.here-here.ensures cs (sym w.if-not-is_fixed.ensures))
+      | then-not-is_fixed-via-then-not-is_fixed w ↦ sym (ruled_counted g c.args.room n v c.here-here.ensures.is cs (sym w.if-not-is_fixed.ensures))
       | then-not-is_fixed-via-else-not-is_fixed+then-width-room w ↦
-          sym (ruled_wide g c.args.room n v c.here-here.ensures cs (sym w.if-not-is_fixed.ensures)
+          sym (ruled_wide g c.args.room n v c.here-here.ensures.is cs (sym w.if-not-is_fixed.ensures)
           (lt-leb _ _ (omega (arith, ap length c.lookup-width.ensures.is, w.if-width-room.true))))
     ]
