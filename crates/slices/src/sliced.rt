@@ -57,6 +57,9 @@ impl Table<64> for Words {
 
     // Bit `held` of each word says whether the row accepts the word's value at the word's place.
     fn put(&mut self, held: u16, row: Row) {
+        if held >= 64 {
+            return;
+        }
         for (i, word) in self.words.iter_mut().enumerate() {
             *word = with_bit(*word, held, accepts_at(row, i / 16, i % 16));
         }
@@ -64,6 +67,9 @@ impl Table<64> for Words {
 
     // The lowest bit that is set in all words that the question names.
     fn first_fitting(&self, held: u16, question: &Question) -> Option<u16> {
+        if held > 64 {
+            return None;
+        }
         lowest_bit(self.all_named(question), held)
     }
 }

@@ -9,16 +9,12 @@ use Rattle.stores.specs.declared.fault.StoreFault.TheVariants.{Full}
 use Rattle.std.proofs.lemmas.Bool.Decides.{nat_tests}
 use Rattle.stores.specs.Fits.{fits}
 use Rattle.stores.specs.Meaning.{Meaning, holding, appended, appended_each, admits}
-use Rattle.stores.specs.Filled.{all_taken}
+use Rattle.stores.specs.Filled.{all_taken, filled}
 
 -- Rows appended one after the other: as many as are taken stand behind those that were there
 
 abbrev stored : List (Question → Bool) → (capacity questions takes : ℕ) → Meaning
 stored fs capacity questions takes = record { rows = fs; capacity = capacity; takes = takes; questions = questions }
-
--- as many of the rows as are taken, behind those that were there
-abbrev filled : Meaning → List Row → Meaning
-filled m rows = holding m (m.rows ++ map fits (take m.takes rows)) (m.takes - length rows)
 
 filled_from : (fs : List (Question → Bool)) (capacity questions takes : ℕ) (rows : List Row) → filled (stored fs capacity questions takes) rows ≡ appended_each (stored fs capacity questions takes) rows
 filled_from fs c q takes [] =
@@ -37,7 +33,8 @@ filled_from fs c q (suc k) (r ∷ rows) =
     ap₂ (λ xs t. stored xs c q t) (sym (append_assoc fs (fits r ∷ []) (map fits (take k rows)))) left
     ∙ filled_from (fs ++ (fits r ∷ [])) c q k rows ∙ ap (λ x. appended_each x rows) (sym one)
 
-filled_each : (m : Meaning) (rows : List Row) → filled m rows ≡ appended_each m rows
+-- rows appended one after the other, in one term: those that are taken, behind those that were there
+pub filled_each : (m : Meaning) (rows : List Row) → filled m rows ≡ appended_each m rows
 filled_each m rows = filled_from m.rows m.capacity m.questions m.takes rows
 
 -- all of them, where they are not more

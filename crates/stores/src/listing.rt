@@ -41,11 +41,17 @@ impl Table<512> for Rows {
     ghost length_rows = { λ t held h. length_listed t.rows held (omega arith) };
 
     fn put(&mut self, held: u16, row: Row) {
-        self.rows[usize::from(held)] = row;
+        if usize::from(held) < self.rows.len() {
+            self.rows[usize::from(held)] = row;
+        }
     }
 
     fn first_fitting(&self, held: u16, question: &Question) -> Option<u16> {
-        first_place(&self.rows[..usize::from(held)], question).map(|place| place as u16)
+        let end = usize::from(held);
+        if end > self.rows.len() {
+            return None;
+        }
+        first_place(&self.rows[..end], question).map(|place| place as u16)
     }
 }
 
