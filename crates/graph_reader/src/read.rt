@@ -20,7 +20,8 @@ pub const MOST_BYTES: usize = 5762;
 
 /// The graph of a file: the one whose encoding the file is. Refused by 1 to 6, the lowest number
 /// first, then the lowest node, then the lowest row or byte. Free: what stands behind the counts of
-/// the graph; of all calls only `Graph::node`, which hands a node out as it is, shows any of it.
+/// the graph; of all calls only those that hand nodes out as they are, `Graph::node`,
+/// `Graph::named_nodes` and `plans::path::Path::here`, show any of it.
 pub fn read_graph(file: &[u8]) -> Result<Graph, ReadFault>
     ensures is { seen result ≡ reading (minimum_in standard_table) file.now }
     ensures answers { Answers of_read (Applies (minimum_in standard_table) file.now) (λ nodes. encode nodes ≡ file.now) (seen result) }

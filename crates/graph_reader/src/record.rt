@@ -9,8 +9,8 @@ ghost use Rattle.graph_reader.specs.declared.fault.FileFault.TheVariants.{Byte};
 use crate::fault::FileFault;
 use octets::read::{byte_at, number2, number4};
 
-// The place of the first byte of a record that is out of its range.
-fn first_wrong(bytes: &[u8]) -> Option<usize>
+/// The place of the first byte of a record that is out of its range.
+pub fn first_wrong(bytes: &[u8]) -> Option<usize>
     ensures is { result ≡ first_wrong bytes.now }
     ensures within { IfSome result (λ i. i < length bytes.now) }
 {

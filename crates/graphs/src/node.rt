@@ -24,10 +24,11 @@ impl Graph {
         ensures few { length (graph_view self.now) ≤ 32 }
     {
         let nodes = self.named_nodes();
-        nodes
-            .get(usize::from(number))
-            .copied()
-            .unwrap_or(Node::blank())
+        // The blank node is made only where it is handed out.
+        match nodes.get(usize::from(number)) {
+            Some(node) => *node,
+            None => Node::blank(),
+        }
     }
 }
 

@@ -17,7 +17,7 @@ use Rattle.walker.specs.Walked.{WalkedAs, MarkedWithFields}
 
 module _ (t : KindTable) (law : FieldsLieInside t) (g : List NodeView) (p : List ℕ) (before after : List Mark) where
   -- those of a finished walk
-  marked_with : (w : Walked) → WalkedAs (minimum_in t) g p before after w → MarkedWithFields t p after w
+  pub marked_with : (w : Walked) → WalkedAs (minimum_in t) g p before after w → MarkedWithFields t p after w
   marked_with w s =
       let front : take w.marks after ≡ s.marked =
       ap (λ k. take k after) s.count ∙ ap (take (length s.marked)) s.written ∙ take-append_seam s.marked (drop (length s.marked) before) in

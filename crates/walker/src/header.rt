@@ -48,8 +48,8 @@ impl<'a> HeaderAt<'a> {
         }
     }
 
-    // Whether each of the places lies in the packet.
-    fn holds(&self, places: &[u8]) -> bool
+    /// Whether each of the places lies in the packet.
+    pub fn holds(&self, places: &[u8]) -> bool
         ensures { result ≡ held self.now.packet.now self.now.at places.now }
     {
         places.iter().all(|place| self.has(*place))

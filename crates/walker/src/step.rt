@@ -1,12 +1,12 @@
 // One step of a walk: a header, and where the deciding row leads.
 ghost use Rattle.std.specs.Prelude.{◌≡◌, ◌+◌, ◌≤◌, min, length};
 ghost use Rattle.headers.specs.Table.{minimum_in};
-ghost use Rattle.graphs.specs.View.{graph_view};
+ghost use Rattle.graphs.specs.View.{node_view, graph_view, node_at};
 ghost use Rattle.walker.specs.Refusals.{most_bytes};
 ghost use Rattle.walker.specs.Steps.{marked, step_at, Stepped};
 
 use crate::header::HeaderAt;
-use graphs::graph::Graph;
+use graphs::graph::{Graph, Node};
 use headers::kinds::Kind;
 use headers::mark::Mark;
 use headers::table::KindTable;
@@ -37,7 +37,20 @@ impl<'a> Course<'a> {
         ensures steps { Stepped (minimum_in self.now.table.now) (graph_view self.now.graph.now) self.now.packet.now node at result }
         ensures few { length (graph_view self.now.graph.now) ≤ 32 }
     {
-        let here = self.graph.node(node);
+        // The node is lent: to copy it would take as long as all else of the step.
+        match self.graph.named_nodes().get(usize::from(node)) {
+            Some(here) => self.step_from(here, node, at),
+            None => self.step_from(&Node::blank(), node, at),
+        }
+    }
+
+    // One step from the node of a number, as it is, at an offset.
+    fn step_from(&self, here: &Node, node: u8, at: u32) -> Step
+        requires here { node_view here.now ≡ node_at (graph_view self.now.graph.now) node }
+        requires at { at ≤ length self.now.packet.now }
+        requires packet { length self.now.packet.now ≤ most_bytes }
+        ensures { Stepped (minimum_in self.now.table.now) (graph_view self.now.graph.now) self.now.packet.now node at result }
+    {
         let places = here.lookup();
         let header = HeaderAt {
             packet: self.packet,

@@ -2,7 +2,7 @@
 ghost use Rattle.std.specs.Prelude.{◌≡◌, ◌≤◌, length, IfOk, OnErr};
 ghost use Rattle.refusals.specs.Searching.{fault_of};
 ghost use Rattle.refusals.specs.Least.{Answers};
-ghost use Rattle.headers.specs.Table.{minimum_in, standard_table};
+ghost use Rattle.headers.specs.Table.{minimum_in, standard_table, FieldsLieInside};
 ghost use Rattle.graphs.specs.View.{graph_view};
 ghost use Rattle.walker.specs.Faults.{of_walk};
 ghost use Rattle.walker.specs.Refusals.{most_bytes, most_marks, WalkApplies, walk_fault, NoFault};
@@ -43,7 +43,7 @@ pub fn walk(graph: &Graph, packet: &[u8], marks: &mut [Mark]) -> Result<Walked, 
 }
 
 /// As `walk`, with the fewest bytes of each kind taken from the table that is given. Refused as
-/// `walk` is.
+/// `walk` is. Where the fields of a kind lie inside its shortest header, each mark has its fields.
 pub fn walk_by(
     table: &KindTable,
     graph: &Graph,
@@ -52,6 +52,7 @@ pub fn walk_by(
 ) -> Result<Walked, WalkFault>
     ensures is { fault_of result ≡ walk_fault (minimum_in table.now) (graph_view graph.now) (length packet.now) (length marks.old) }
     ensures answers { Answers of_walk (WalkApplies (minimum_in table.now) (graph_view graph.now) (length packet.now) (length marks.old)) (WalkedAs (minimum_in table.now) (graph_view graph.now) packet.now marks.old marks.new) result }
+    ensures fields { FieldsLieInside table.now → IfOk result (MarkedWithFields table.now packet.now marks.new) }
     ensures kept { OnErr result (marks.new ≡ marks.old) }
 {
     first_fault(table, graph, packet.len(), marks.len())?;

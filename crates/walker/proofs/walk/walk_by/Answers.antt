@@ -4,6 +4,7 @@ use Rattle.refusals.specs.Searching.{fault_of}
 use Rattle.headers.specs.Table.{minimum_in}
 use Rattle.graphs.specs.View.{graph_view}
 use Rattle.walker.proofs.Refused.{told_least, none_applies, graph_sound, packet_fits, marks_suffice}
+use Rattle.walker.proofs.Fields.{marked_with}
 use Rattle.walker.proofs.walk.walk_by.Goals as goal
 
 pub returns-in_err-first_fault : goal.returns-in_err-first_fault
@@ -15,6 +16,7 @@ returns-in_err-first_fault c =
           rw p.1
           (told_least (minimum_in c.args.table.now) (graph_view c.args.graph.now) (length c.args.packet.now) (length c.args.marks.now) p.0
           _ p.2 c.in_err-first_fault.ensures);
+      fields = rw p.1 (λ _. tt);
       kept = rw p.1 refl;
     }
 
@@ -29,11 +31,13 @@ walk-requires c =
 
 pub returns : goal.returns
 returns c =
+    let table = c.args.table.now in
+    let g = graph_view c.args.graph.now in
+    let p = c.args.packet.now in
+    let before = c.args.marks.now in
     record {
       is = c.in_ok-first_fault.ensures;
-      answers = (
-        none_applies (minimum_in c.args.table.now) (graph_view c.args.graph.now) (length c.args.packet.now) (length c.args.marks.now) c.in_ok-first_fault.ensures,
-        c.walk.ensures,
-      );
+      answers = (none_applies (minimum_in table) g (length p) (length before) c.in_ok-first_fault.ensures, c.walk.ensures);
+      fields = λ law. marked_with table law g p before c.walk.new.marks c.walk.result c.walk.ensures;
       kept = tt;
     }
