@@ -41,7 +41,7 @@ impl<'a> Comparison<'a> {
     /// printed.
     pub fn print<'f>(&self, rt: &(impl Print + AllocGlobal)) -> Result<(), Failure<'f>> {
         let heap = rt.alloc();
-        let packets = Packets::of(heap, self.packets)?;
+        let packets = Packets::of(self.packets)?;
         let left = self.calls(heap, self.left, &packets)?;
         let right = self.calls(heap, self.right, &packets)?;
         let mut left_replies = vec![in heap; BLANK; left.len()]?;
@@ -68,7 +68,7 @@ impl<'a> Comparison<'a> {
         let mut calls = Vec::new(heap);
         let file = self.file;
         calls.push(Call::Load { file, plan })?;
-        packets.push_reads(&mut calls)?;
+        packets.push_reads(heap, &mut calls)?;
         calls.push(Call::Report)?;
         Ok(calls)
     }

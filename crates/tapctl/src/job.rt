@@ -45,7 +45,7 @@ impl Job<'_> {
     ) -> Result<(), Failure<'a>> {
         let mut tap = Tap::new(store);
         tap.load(self.file, self.plan).map_err(Refusal::from)?;
-        let packets = Packets::of(rt.alloc(), self.packets)?;
+        let packets = Packets::of(self.packets)?;
         let marks = [NO_MARK; MOST_MARKS];
         let mut reads = Reads { tap, marks, detail };
         let read = packets.tell_each(rt, detail, &mut reads);

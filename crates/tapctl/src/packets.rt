@@ -1,7 +1,7 @@
 // The packets of a file, and what is told of each.
-use captures::fault::CaptureFault;
-use captures::format::{HEADER, is_capture, open};
+use captures::format::{Format, HEADER, is_capture, open};
 use captures::records::Records;
+use captures::survey::{Survey, count_records};
 use console::failure::Failure;
 use runs::calls::Call;
 use std::alloc::Global;
@@ -18,13 +18,15 @@ pub enum Detail {
     Summary,
 }
 
-/// The packets of a file, in order: those of a capture, or the one packet that the file is.
-#[derive(Drop)]
+/// The packets of a file, in order: those of a capture, or the one packet that the file is. None is kept:
+/// each is taken from the file where it is needed.
+#[derive(Clone, Copy)]
 pub struct Packets<'a> {
-    pub list: Vec<&'a [u8]>,
-    pub capture: bool,
-    /// What cuts the capture short behind its last packet.
-    cut: Option<CaptureFault>,
+    file: &'a [u8],
+    /// How the capture is spelled. None where the file is one packet.
+    format: Option<Format>,
+    /// How many packets there are, and what cuts the capture short behind the last.
+    survey: Survey,
 }
 
 /// What is told of the packets of a file, one after the other.
@@ -39,41 +41,62 @@ pub trait Telling {
 
 impl<'a> Packets<'a> {
     /// The packets of a file. Fails if the file is a capture that is not of Ethernet.
-    pub fn of<'f>(heap: Global, file: &'a [u8]) -> Result<Packets<'a>, Failure<'f>> {
-        let mut packets = Packets {
-            list: Vec::new(heap),
-            capture: is_capture(file),
-            cut: None,
-        };
-        if packets.capture {
-            packets.collect(file)?;
-        } else {
-            packets.list.push(file)?;
+    pub fn of<'f>(file: &'a [u8]) -> Result<Packets<'a>, Failure<'f>> {
+        if !is_capture(file) {
+            let one = Survey {
+                records: 1,
+                fault: None,
+            };
+            return Ok(Packets {
+                file,
+                format: None,
+                survey: one,
+            });
         }
-        Ok(packets)
+        let format = open(file)?;
+        Ok(Packets {
+            file,
+            format: Some(format),
+            survey: count_records(file, format, HEADER),
+        })
     }
 
-    // The packets of a capture, up to its end or a record that is cut.
-    fn collect<'f>(&mut self, file: &'a [u8]) -> Result<(), Failure<'f>> {
-        let format = open(file)?;
-        for record in Records::new(file, format, HEADER) {
-            match record {
-                Ok(record) => self.list.push(record.packet)?,
-                Err(fault) => self.cut = Some(fault),
-            }
-        }
-        Ok(())
+    /// How many packets the capture has, up to its end or to the first that is cut. None where the file
+    /// is one packet.
+    pub fn in_capture(&self) -> Option<usize> {
+        self.format.and(Some(self.survey.records))
     }
 
     /// Fails if the capture is cut.
     pub fn whole<'f>(&self) -> Result<(), Failure<'f>> {
-        self.cut
+        self.survey
+            .fault
             .map_or(Ok(()), |fault| Err(Failure::Capture(fault)))
     }
 
+    /// All packets, up to the capture's end or to the first that is cut.
+    pub fn list<'f>(&self, heap: Global) -> Result<Vec<&'a [u8]>, Failure<'f>> {
+        let mut list = Vec::new(heap);
+        let Some(format) = self.format else {
+            list.push(self.file)?;
+            return Ok(list);
+        };
+        for record in Records::new(self.file, format, HEADER) {
+            if let Ok(record) = record {
+                list.push(record.packet)?;
+            }
+        }
+        Ok(list)
+    }
+
     /// Puts a read of each packet behind the calls, lent as many marks as a read may need.
-    pub fn push_reads<'f>(&self, calls: &mut Vec<Call<'a>>) -> Result<(), Failure<'f>> {
-        for packet in self.list.iter() {
+    pub fn push_reads<'f>(
+        &self,
+        heap: Global,
+        calls: &mut Vec<Call<'a>>,
+    ) -> Result<(), Failure<'f>> {
+        let list = self.list(heap)?;
+        for packet in list.iter() {
             calls.push(Call::Read {
                 packet: *packet,
                 room: MOST_MARKS,
@@ -91,39 +114,56 @@ impl<'a> Packets<'a> {
         detail: Detail,
         telling: &mut impl Telling,
     ) -> Result<(), Failure<'f>> {
-        for (number, packet) in self.list.iter().enumerate() {
-            self.print_progress(rt, number)?;
-            if let Detail::Packets = detail {
-                self.print_heading(rt, number, packet)?;
-            }
-            match telling.tell(rt, packet) {
-                Err(Failure::Refused(refusal)) if self.capture => {
-                    if let Detail::Summary = detail {
-                        self.print_heading(rt, number, packet)?;
-                    }
-                    println!(rt; "refused: {refusal}")?;
-                }
-                other => other?,
-            }
+        let Some(format) = self.format else {
+            return telling.tell(rt, self.file);
+        };
+        // Counted by hand: a cut record ends the telling at once.
+        let mut number: usize = 0;
+        for record in Records::new(self.file, format, HEADER) {
+            let packet = record?.packet;
+            self.print_progress(rt, number);
+            tell_record(rt, detail, telling, number, packet)?;
+            number = number.saturating_add(1);
         }
-        self.whole()
+        Ok(())
     }
 
-    // Prints how far the command has come, now and then.
-    fn print_progress(&self, rt: &impl Eprint, number: usize) -> io::Result<()> {
+    // Prints how far the command has come, now and then. Where that cannot be printed, the command goes
+    // on: only what it prints on the standard output is its work.
+    fn print_progress(&self, rt: &impl Eprint, number: usize) {
         if number > 0 && number % STRIDE == 0 {
-            let count = self.list.len();
-            eprintln!(rt; "{number} of {count} packets")?;
+            let count = self.survey.records;
+            let _told = eprintln!(rt; "{number} of {count} packets");
         }
-        Ok(())
     }
+}
 
-    // The number and the length of a capture's packet.
-    fn print_heading(&self, rt: &impl Print, number: usize, packet: &[u8]) -> io::Result<()> {
-        if self.capture {
-            let length = packet.len();
-            println!(rt; "packet {number}: {length} bytes")?;
-        }
-        Ok(())
+// Tells of a capture's packet, or why it is refused, under a heading; in a summary only one that is
+// refused has a heading.
+fn tell_record<'f>(
+    rt: &(impl Print + AllocGlobal),
+    detail: Detail,
+    telling: &mut impl Telling,
+    number: usize,
+    packet: &[u8],
+) -> Result<(), Failure<'f>> {
+    if let Detail::Packets = detail {
+        print_heading(rt, number, packet)?;
     }
+    match telling.tell(rt, packet) {
+        Err(Failure::Refused(refusal)) => {
+            if let Detail::Summary = detail {
+                print_heading(rt, number, packet)?;
+            }
+            println!(rt; "refused: {refusal}")?;
+            Ok(())
+        }
+        other => other,
+    }
+}
+
+// The number and the length of a capture's packet.
+fn print_heading(rt: &impl Print, number: usize, packet: &[u8]) -> io::Result<()> {
+    let length = packet.len();
+    println!(rt; "packet {number}: {length} bytes")
 }

@@ -6,7 +6,7 @@ use headers::mark::Mark;
 use headers::part::{field, payload};
 use readers::read::Reading;
 use refusals::refusal::Refusal;
-use std::io;
+use std::{fmt, io};
 use taps::counts::{Endings, Report};
 use walks::outcome::Outcome;
 
@@ -32,7 +32,7 @@ pub fn print_reading<'a>(
 
 // Prints a mark with the fields of its kind in hex.
 fn print_fields<'a>(rt: &impl Print, packet: &[u8], mark: &Mark) -> Result<(), Failure<'a>> {
-    write_mark(rt, mark)?;
+    print!(rt; "{}", MarkText(*mark))?;
     for number in 0..FIELDS {
         if let Some(bytes) = field(packet, mark, number).map_err(Refusal::from)? {
             print!(rt; "  {}", Hex(bytes))?;
@@ -42,17 +42,22 @@ fn print_fields<'a>(rt: &impl Print, packet: &[u8], mark: &Mark) -> Result<(), F
     Ok(())
 }
 
-/// Prints a mark, and does not end the line.
-pub fn write_mark(rt: &impl Print, mark: &Mark) -> io::Result<()> {
-    let Mark {
-        node,
-        kind,
-        offset,
-        length,
-    } = *mark;
-    match Kind::try_from(kind) {
-        Ok(kind) => print!(rt; "{node:>4}  {kind:<8}  {offset:>6}  {length:>6}"),
-        Err(_) => print!(rt; "{node:>4}  unknown   {offset:>6}  {length:>6}"),
+/// A mark in words: its node, kind, offset and length, in columns.
+#[derive(Clone, Copy)]
+pub struct MarkText(pub Mark);
+
+impl fmt::Display for MarkText {
+    fn fmt<W: fmt::Write>(&self, f: &mut fmt::Formatter<W>) -> fmt::Result {
+        let Mark {
+            node,
+            kind,
+            offset,
+            length,
+        } = self.0;
+        match Kind::try_from(kind) {
+            Ok(kind) => write!(f, "{node:>4}  {kind:<8}  {offset:>6}  {length:>6}"),
+            Err(_) => write!(f, "{node:>4}  unknown   {offset:>6}  {length:>6}"),
+        }
     }
 }
 

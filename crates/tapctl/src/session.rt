@@ -78,7 +78,7 @@ impl<S: Store> Session<S> {
         packets: &'a str,
     ) -> Result<(), Failure<'a>> {
         let file = bytes_of(rt, packets)?;
-        let packets = Packets::of(rt.alloc(), file.as_slice())?;
+        let packets = Packets::of(file.as_slice())?;
         let mut reads = Reads {
             tap: &mut self.tap,
             marks: [NO_MARK; MOST_MARKS],

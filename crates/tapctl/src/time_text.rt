@@ -47,8 +47,9 @@ impl Job<'_> {
         rt: &(impl Print + Clock + AllocGlobal),
         store: S,
     ) -> Result<(), Failure<'a>> {
-        let packets = Packets::of(rt.alloc(), self.packets)?;
+        let packets = Packets::of(self.packets)?;
         packets.whole()?;
+        let list = packets.list(rt.alloc())?;
         let mut tap = Tap::new(store);
         let start = Instant::now(rt)?;
         for _ in 0..LOADS {
@@ -57,7 +58,7 @@ impl Job<'_> {
         let loading = start.elapsed(rt)?;
         print_time(rt, "loads", u64::from(LOADS), loading)?;
         let start = Instant::now(rt)?;
-        let total = read_over(&mut tap, packets.list.as_slice());
+        let total = read_over(&mut tap, list.as_slice());
         let reading = start.elapsed(rt)?;
         print_time(rt, "reads", total.reads, reading)?;
         print_time(rt, "headers", total.headers, reading)?;

@@ -1,6 +1,6 @@
 // A packet's walk as a person reads it.
 use crate::packets::{Detail, Packets, Telling};
-use crate::reading_text::{print_outcome, write_mark};
+use crate::reading_text::{MarkText, print_outcome};
 use console::failure::Failure;
 use graphs::graph::Graph;
 use headers::mark::Mark;
@@ -16,10 +16,9 @@ pub fn print_walks<'a>(
     graph: &Graph,
     file: &[u8],
 ) -> Result<(), Failure<'a>> {
-    let packets = Packets::of(rt.alloc(), file)?;
+    let packets = Packets::of(file)?;
     packets.tell_each(rt, Detail::Packets, &mut Walks { graph })?;
-    if packets.capture {
-        let count = packets.list.len();
+    if let Some(count) = packets.in_capture() {
         println!(rt; "{count} packets")?;
     }
     Ok(())
@@ -43,8 +42,8 @@ impl Telling for Walks<'_> {
         let walked = walk(self.graph, packet, marks.as_mut_slice()).map_err(Refusal::from)?;
         println!(rt; "node  kind      offset  length")?;
         for mark in marks.iter().take(walked.marks) {
-            write_mark(rt, mark)?;
-            println!(rt; "")?;
+            // One text a line: each text that is printed is written by itself.
+            println!(rt; "{}", MarkText(*mark))?;
         }
         print_outcome(rt, packet, walked.outcome)
     }
