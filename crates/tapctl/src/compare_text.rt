@@ -42,8 +42,9 @@ impl<'a> Comparison<'a> {
     pub fn print<'f>(&self, rt: &(impl Print + AllocGlobal)) -> Result<(), Failure<'f>> {
         let heap = rt.alloc();
         let packets = Packets::of(self.packets)?;
-        let left = self.calls(heap, self.left, &packets)?;
-        let right = self.calls(heap, self.right, &packets)?;
+        let list = packets.list(heap)?;
+        let left = self.calls(heap, self.left, list.as_slice())?;
+        let right = self.calls(heap, self.right, list.as_slice())?;
         let mut left_replies = vec![in heap; BLANK; left.len()]?;
         let mut right_replies = vec![in heap; BLANK; right.len()]?;
         let _taps = side_by_side(
@@ -58,17 +59,22 @@ impl<'a> Comparison<'a> {
         packets.whole()
     }
 
-    // The calls of a tap: the load, a read for each packet, and a report.
+    // The calls of a tap: the load, a read for each packet, lent as many marks as it may need, and a report.
     fn calls<'f>(
         &self,
         heap: Global,
         plan: &'a [u8],
-        packets: &Packets<'a>,
+        packets: &[&'a [u8]],
     ) -> Result<Vec<Call<'a>>, Failure<'f>> {
         let mut calls = Vec::new(heap);
         let file = self.file;
         calls.push(Call::Load { file, plan })?;
-        packets.push_reads(heap, &mut calls)?;
+        for packet in packets {
+            calls.push(Call::Read {
+                packet: *packet,
+                room: MOST_MARKS,
+            })?;
+        }
         calls.push(Call::Report)?;
         Ok(calls)
     }

@@ -3,10 +3,8 @@ use captures::format::{Format, HEADER, is_capture, open};
 use captures::records::Records;
 use captures::survey::{Survey, count_records};
 use console::failure::Failure;
-use runs::calls::Call;
 use std::alloc::Global;
 use std::io;
-use walker::walk::MOST_MARKS;
 
 // After so many packets the standard error tells how far a command has come.
 const STRIDE: usize = 100_000;
@@ -23,9 +21,14 @@ pub enum Detail {
 #[derive(Clone, Copy)]
 pub struct Packets<'a> {
     file: &'a [u8],
-    /// How the capture is spelled. None where the file is one packet.
-    format: Option<Format>,
-    /// How many packets there are, and what cuts the capture short behind the last.
+    /// None where the file is one packet.
+    capture: Option<Capture>,
+}
+
+// How a capture is spelled, how many packets it has, and what cuts it short behind the last.
+#[derive(Clone, Copy)]
+struct Capture {
+    format: Format,
     survey: Survey,
 }
 
@@ -43,66 +46,42 @@ impl<'a> Packets<'a> {
     /// The packets of a file. Fails if the file is a capture that is not of Ethernet.
     pub fn of<'f>(file: &'a [u8]) -> Result<Packets<'a>, Failure<'f>> {
         if !is_capture(file) {
-            let one = Survey {
-                records: 1,
-                fault: None,
-            };
-            return Ok(Packets {
-                file,
-                format: None,
-                survey: one,
-            });
+            let capture = None;
+            return Ok(Packets { file, capture });
         }
         let format = open(file)?;
-        Ok(Packets {
-            file,
-            format: Some(format),
-            survey: count_records(file, format, HEADER),
-        })
+        let survey = count_records(file, format, HEADER);
+        let capture = Some(Capture { format, survey });
+        Ok(Packets { file, capture })
     }
 
     /// How many packets the capture has, up to its end or to the first that is cut. None where the file
     /// is one packet.
-    pub fn in_capture(&self) -> Option<usize> {
-        self.format.and(Some(self.survey.records))
+    pub fn capture_count(&self) -> Option<usize> {
+        self.capture.map(|capture| capture.survey.records)
     }
 
     /// Fails if the capture is cut.
     pub fn whole<'f>(&self) -> Result<(), Failure<'f>> {
-        self.survey
-            .fault
-            .map_or(Ok(()), |fault| Err(Failure::Capture(fault)))
+        match self.capture.and_then(|capture| capture.survey.fault) {
+            Some(fault) => Err(Failure::Capture(fault)),
+            None => Ok(()),
+        }
     }
 
-    /// All packets, up to the capture's end or to the first that is cut.
+    /// All packets, up to the capture's end or to the first that is cut, which `whole` tells.
     pub fn list<'f>(&self, heap: Global) -> Result<Vec<&'a [u8]>, Failure<'f>> {
         let mut list = Vec::new(heap);
-        let Some(format) = self.format else {
+        let Some(capture) = self.capture else {
             list.push(self.file)?;
             return Ok(list);
         };
-        for record in Records::new(self.file, format, HEADER) {
+        for record in Records::new(self.file, capture.format, HEADER) {
             if let Ok(record) = record {
                 list.push(record.packet)?;
             }
         }
         Ok(list)
-    }
-
-    /// Puts a read of each packet behind the calls, lent as many marks as a read may need.
-    pub fn push_reads<'f>(
-        &self,
-        heap: Global,
-        calls: &mut Vec<Call<'a>>,
-    ) -> Result<(), Failure<'f>> {
-        let list = self.list(heap)?;
-        for packet in list.iter() {
-            calls.push(Call::Read {
-                packet: *packet,
-                room: MOST_MARKS,
-            })?;
-        }
-        Ok(())
     }
 
     /// Tells of each packet, and why one of a capture's is refused, under a heading for each; in a
@@ -114,27 +93,24 @@ impl<'a> Packets<'a> {
         detail: Detail,
         telling: &mut impl Telling,
     ) -> Result<(), Failure<'f>> {
-        let Some(format) = self.format else {
+        let Some(capture) = self.capture else {
             return telling.tell(rt, self.file);
         };
-        // Counted by hand: a cut record ends the telling at once.
-        let mut number: usize = 0;
-        for record in Records::new(self.file, format, HEADER) {
+        let records = Records::new(self.file, capture.format, HEADER);
+        for (number, record) in records.enumerate() {
             let packet = record?.packet;
-            self.print_progress(rt, number);
+            print_progress(rt, number, capture.survey.records);
             tell_record(rt, detail, telling, number, packet)?;
-            number = number.saturating_add(1);
         }
         Ok(())
     }
+}
 
-    // Prints how far the command has come, now and then. Where that cannot be printed, the command goes
-    // on: only what it prints on the standard output is its work.
-    fn print_progress(&self, rt: &impl Eprint, number: usize) {
-        if number > 0 && number % STRIDE == 0 {
-            let count = self.survey.records;
-            let _told = eprintln!(rt; "{number} of {count} packets");
-        }
+// Prints how far a command has come, now and then. Where that cannot be printed, the command goes on: only
+// what it prints on the standard output is its work.
+fn print_progress(rt: &impl Eprint, number: usize, count: usize) {
+    if number > 0 && number % STRIDE == 0 {
+        let _told = eprintln!(rt; "{number} of {count} packets");
     }
 }
 

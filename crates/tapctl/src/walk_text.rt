@@ -18,7 +18,7 @@ pub fn print_walks<'a>(
 ) -> Result<(), Failure<'a>> {
     let packets = Packets::of(file)?;
     packets.tell_each(rt, Detail::Packets, &mut Walks { graph })?;
-    if let Some(count) = packets.in_capture() {
+    if let Some(count) = packets.capture_count() {
         println!(rt; "{count} packets")?;
     }
     Ok(())
