@@ -1,13 +1,13 @@
 // How many rows graph and plan need, without listing them.
 ghost use Rattle.std.specs.Prelude.{◌≡◌, ◌+◌, ◌*◌, ◌≤◌, min, [], length};
-ghost use Rattle.graphs.specs.View.{graph_view};
-ghost use Rattle.walks.specs.Plans.{entry_count, chain_count, store_count};
+ghost use Rattle.graphs.specs.View.{graph_view, node_at};
+ghost use Rattle.walks.specs.Plans.{piece_count, pieces_to, entry_count, chain_count, store_count};
 ghost use Rattle.plans.specs.Chains.{chain_of};
 
 use crate::chains::Chains;
 use crate::nodes::{piece_count, pieces_to};
 use crate::path::Path;
-use graphs::graph::Graph;
+use graphs::graph::{Graph, Node};
 
 /// The most rows that are told apart.
 pub const MOST: u32 = 65535;
@@ -52,11 +52,30 @@ impl<'a> Path<'a> {
     fn rows(&self) -> u32
         ensures { result ≡ min (entry_count (graph_view self.now.graph.now) self.now.node self.now.behind.now) 65535 }
     {
-        let here = self.here();
-        let own = piece_count(&here);
+        let own = self.pieces();
         match self.rest() {
             None => own.min(MOST),
-            Some(rest) => with_rest(own, pieces_to(&here, rest.node), rest.rows()),
+            Some(rest) => with_rest(own, self.pieces_leading_to(rest.node), rest.rows()),
+        }
+    }
+
+    // The pieces of the node. It is lent: to copy it would take longer than to count them.
+    fn pieces(&self) -> u32
+        ensures { result ≡ piece_count (node_at (graph_view self.now.graph.now) self.now.node).rows }
+    {
+        match self.graph.named_nodes().get(usize::from(self.node)) {
+            Some(here) => piece_count(here),
+            None => piece_count(&Node::blank()),
+        }
+    }
+
+    // Those of them that lead to another node.
+    fn pieces_leading_to(&self, to: u8) -> u32
+        ensures { result ≡ pieces_to to (node_at (graph_view self.now.graph.now) self.now.node).rows }
+    {
+        match self.graph.named_nodes().get(usize::from(self.node)) {
+            Some(here) => pieces_to(here, to),
+            None => pieces_to(&Node::blank(), to),
         }
     }
 }
