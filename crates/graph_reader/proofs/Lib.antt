@@ -7,3 +7,4 @@ pub mod Filed
 pub mod Refused
 pub mod Places
 pub mod Reread
+pub mod Behind

@@ -57,7 +57,15 @@ trait RowIn: Copy {
 impl RowIn for TernaryRow {
     ghost said = { ternary_in };
 
+    #[tactic(auto, using(crate::proofs::Behind::ternary_behind))]
     fn row_in(row: &RowAt) -> TernaryRow {
+        if row.is_behind() {
+            return TernaryRow {
+                value: 0,
+                mask: 0,
+                target: Target::Node(0),
+            };
+        }
         TernaryRow {
             value: row.number4(0),
             mask: row.number4(4),
@@ -69,7 +77,15 @@ impl RowIn for TernaryRow {
 impl RowIn for RangeRow {
     ghost said = { range_in };
 
+    #[tactic(auto, using(crate::proofs::Behind::range_behind))]
     fn row_in(row: &RowAt) -> RangeRow {
+        if row.is_behind() {
+            return RangeRow {
+                low: 0,
+                high: 0,
+                target: Target::Node(0),
+            };
+        }
         RangeRow {
             low: row.number2(0),
             high: row.number2(2),

@@ -1,5 +1,5 @@
 // The bytes of a record: which of them are in their ranges. A byte behind the end reads as 0.
-ghost use Rattle.std.specs.Prelude.{◌≡◌, ◌+◌, ◌*◌, ◌%◌, ◌^◌, ◌<◌, ◌≤◌, length, IfSome};
+ghost use Rattle.std.specs.Prelude.{◌≡◌, ◌+◌, ◌*◌, ◌%◌, ◌^◌, ◌<◌, ◌≤◌, length, nat_le, IfSome};
 ghost use Rattle.graph_reader.specs.Records.{at, at2, at4, fixed_right, counted_right, length_right, lookup_right, ternary_right, range_right, target_right, row_right, right};
 ghost use Rattle.std.specs.Option.{option_map};
 ghost use Rattle.refusals.specs.Searching.{fault_of};
@@ -121,6 +121,13 @@ impl<'a> RowAt<'a> {
             bytes,
             begin: 16 + 10 * k,
         }
+    }
+
+    // Whether the row lies behind the record's last byte, so that all its bytes are 0.
+    pub(crate) fn is_behind(&self) -> bool
+        ensures { result ≡ nat_le (length self.now.bytes.now) self.now.begin }
+    {
+        self.bytes.len() <= self.begin
     }
 
     // Whether byte j of the row is in its range.
